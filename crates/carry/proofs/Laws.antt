@@ -1,0 +1,54 @@
+-- Laws of the carry's writes: one turn of each copy, and what a whole one comes to.
+use mathlib.Core.Path.{_≡_, refl, sym, ap, _∙_}
+use Prim.Native.Nat.{ℕ, zero, suc, _+_, _-_, _≤_, _<_}
+use native.Mathlib.Nat.{le-of-suc-le-suc, not-suc-le-zero, zero-add, suc-add, sub-zero}
+use native.Mathlib.Numerals.{add-one}
+use native.Mathlib.Omega.{arith}
+use mathlib.Core.List.{List, [], _∷_, _++_}
+use lib.ListN.{length, take, drop, getD, set, length-drop, take-append-drop, drop-of-length-le}
+use lib.Seq.{getD-drop, getD-append-add, length-take-le, take-nil}
+use Rattle.carry.specs.Carry.{drainCarry}
+
+-- a store takes the copy of i bytes to the copy of one more
+pub store : (src dst : List ℕ) (i : ℕ) → i < length src → i < length dst → set (take i src ++ drop i dst) i (getD src i 0) ≡ take (suc i) src ++ drop (suc i) dst
+store [] dst i h k = absurd (not-suc-le-zero h)
+store (x ∷ xs) [] i h k = absurd (not-suc-le-zero k)
+store (x ∷ xs) (y ∷ ys) zero h k = refl
+store (x ∷ xs) (y ∷ ys) (suc i) h k = ap (λ (l : List ℕ). x ∷ l) (store xs ys i (le-of-suc-le-suc h) (le-of-suc-le-suc k))
+
+-- the byte that the next turn reads has not been written
+pub unread : (xs : List ℕ) (k i : ℕ) → k + i < length xs → getD (take i (drop k xs) ++ drop i xs) (k + i) 0 ≡ getD (drop k xs) i 0
+unread xs k i h =
+    let p : List ℕ = take i (drop k xs) in
+    let e : length p + k ≡ k + i = rw (length-take-le i (drop k xs) (simp length-drop (omega arith))) (omega arith) in
+    ap (λ (n : ℕ). getD (p ++ drop i xs) n 0) (sym e)
+    ∙ getD-append-add p (drop i xs) k 0
+    ∙ getD-drop i xs k 0
+    ∙ ap (λ (n : ℕ). getD xs n 0) (omega arith)
+    ∙ sym (getD-drop k xs i 0)
+
+pub move-turn : (xs : List ℕ) (k i : ℕ) → k + i < length xs → set (take i (drop k xs) ++ drop i xs) i (getD (take i (drop k xs) ++ drop i xs) (k + i) 0) ≡ take (i + 1) (drop k xs) ++ drop (i + 1) xs
+move-turn xs k i h = rw (unread xs k i h, add-one) (store (drop k xs) xs i (simp length-drop (omega arith)) (omega arith))
+
+-- ---- what draining comes to where no byte is moved, and where the last one has been
+
+pub drain-all : (xs : List ℕ) (k live : ℕ) → live ≤ k → live ≤ length xs → drainCarry k live xs ≡ xs
+drain-all xs k live h l =
+    let gone : drop k (take live xs) ≡ [] = drop-of-length-le (take live xs) {i = k} (rw (length-take-le live xs l) h) in
+    let none : live - k ≡ 0 = omega arith in
+    rw (gone, none)
+
+pub drain-none : (xs : List ℕ) (live : ℕ) → drainCarry 0 live xs ≡ xs
+drain-none xs live = rw sub-zero (take-append-drop live xs)
+
+-- the part of a front is the front of the part
+pub drop-take : (n k : ℕ) (l : List ℕ) → drop n (take (n + k) l) ≡ take k (drop n l)
+drop-take zero k l = rw zero-add
+drop-take (suc n) k [] = simp take-nil
+drop-take (suc n) k (x ∷ l) = rw suc-add (drop-take n k l)
+
+pub drain-ends : (xs : List ℕ) (k live : ℕ) → k ≤ live → take (live - k) (drop k xs) ++ drop (live - k) xs ≡ drainCarry k live xs
+drain-ends xs k live h =
+    let e : live ≡ k + (live - k) = omega arith in
+    let d : drop k (take live xs) ≡ take (live - k) (drop k xs) = ap (λ (n : ℕ). drop k (take n xs)) e ∙ drop-take k (live - k) xs in
+    rw d

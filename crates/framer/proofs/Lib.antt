@@ -1,0 +1,5 @@
+pub mod Window
+pub mod Account
+pub mod Granted
+pub mod Turns
+pub mod Slices

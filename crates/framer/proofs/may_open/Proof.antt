@@ -1,0 +1,30 @@
+-- `framer::may_open` meets its contract.
+use mathlib.Core.Path.{sym, _∙_}
+use borrow.Author.Tests.{lt-ltb, le-ltb}
+use Rattle.window.specs.Pick.{pick}
+use Rattle.framer.specs.Refusals.{mayOpen}
+use borrow.Author.Needs.{needs}
+use Rattle.framer.proofs.may_open.Statement.{statement}
+use Rattle.framer.proofs.may_open.Tie as tie
+
+is-bad-requires : tie.Need-is-bad-requires
+is-bad-requires c κs = search needs
+
+returns : tie.Need-returns
+unfolding mayOpen pick
+returns c = rw (sym (c .before .is-bad .ensures) ∙ c .if1 .taken)
+
+returns-2 : tie.Need-returns-2
+unfolding mayOpen pick
+returns-2 c = rw (sym (c .before .before .is-bad .ensures) ∙ c .before .if1 .left, c .if2 .taken)
+
+returns-3 : tie.Need-returns-3
+unfolding mayOpen pick
+returns-3 c = rw (sym (c .before .before .before .is-bad .ensures) ∙ c .before .before .if1 .left, c .before .if2 .left, lt-ltb _ _ (c .if3 .taken))
+
+returns-4 : tie.Need-returns-4
+unfolding mayOpen pick
+returns-4 c = rw (sym (c .before .before .before .is-bad .ensures) ∙ c .before .before .if1 .left, c .before .if2 .left, le-ltb _ _ (c .if3 .left))
+
+pub may-open-spec : {M : Type 1} → statement M
+may-open-spec = tie.close (tie.spec is-bad-requires returns returns-2 returns-3 returns-4)

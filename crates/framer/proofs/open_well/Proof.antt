@@ -1,0 +1,67 @@
+-- `framer::open_well` meets its contract: the two slices are the window of the opened state.
+use mathlib.Core.Path.{ap, _∙_}
+use mathlib.Core.List.{List, _++_}
+use Prim.Native.Nat.{ℕ, _≤_, _<_}
+use native.Mathlib.Nat.{zero-add}
+use native.Mathlib.Omega.{arith}
+use lib.ListN.{length}
+use borrow.Author.Tests.{lt-ltb, le-ltb}
+use Rattle.window.specs.Pick.{pick}
+use Rattle.window.specs.Sync.{firstSync}
+use Rattle.framer.specs.Words.{window, width}
+use Rattle.framer.specs.Operations.{noted}
+use Rattle.framer.proofs.Slices.{left-part}
+use borrow.Author.Needs.{needs}
+use Rattle.framer.proofs.open_well.Statement.{statement}
+use Rattle.framer.proofs.open_well.Tie as tie
+
+sub-find-sync : tie.Need-sub-find-sync
+sub-find-sync c = search needs
+
+part-find-sync-start : tie.Need-part-find-sync-start
+part-find-sync-start c = search needs
+
+part-find-sync-end : tie.Need-part-find-sync-end
+part-find-sync-end c = search needs
+
+find-sync-requires : tie.Need-find-sync-requires
+find-sync-requires c κs = search needs
+
+sub-if1 : tie.Need-sub-if1
+sub-if1 c = search needs
+
+add-if1 : tie.Need-add-if1
+add-if1 c = search needs
+
+drained-requires : tie.Need-drained-requires
+drained-requires c κs = search needs
+
+returns : tie.Need-returns
+unfolding pick
+returns c = let x = c .before .before .before .before .before .before .args in
+    let o = noted (x .s) (length (x .chunk .now)) in
+    let i = c .before .before .find-sync .ensures .0 ∙ zero-add _ ∙ ap (λ (l : List ℕ). firstSync (x .s .mode) (l ++ x .chunk .now)) (left-part (x .carry .now) (x .s .off) (x .s .live) (omega arith)) in
+    let h : firstSync (x .s .mode) (window o (x .carry .now) (x .chunk .now)) < width o = rw (← i) (omega arith) in
+    c .drained .ensures ∙ rw (lt-ltb _ _ h, i)
+
+returns-2 : tie.Need-returns-2
+unfolding pick
+returns-2 c = let x = c .before .before .before .before .before .args in
+    let o = noted (x .s) (length (x .chunk .now)) in
+    let i = c .before .find-sync .ensures .0 ∙ zero-add _ ∙ ap (λ (l : List ℕ). firstSync (x .s .mode) (l ++ x .chunk .now)) (left-part (x .carry .now) (x .s .off) (x .s .live) (omega arith)) in
+    let h : width o ≤ firstSync (x .s .mode) (window o (x .carry .now) (x .chunk .now)) = rw (← i) (omega arith) in
+    rw (le-ltb _ _ h)
+
+pub open-well-spec : {M : Type 1} → statement M
+open-well-spec =
+    tie.close
+    (tie.spec
+    sub-find-sync
+    part-find-sync-start
+    part-find-sync-end
+    find-sync-requires
+    sub-if1
+    add-if1
+    drained-requires
+    returns
+    returns-2)

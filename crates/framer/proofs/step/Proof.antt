@@ -1,0 +1,44 @@
+-- `framer::step` meets its contract.
+use mathlib.Core.Path.{refl, sym, _∙_}
+use Rattle.framer.specs.Step.{step}
+use Rattle.framer.proofs.Granted.{use-granted}
+use borrow.Author.Needs.{needs}
+use Rattle.framer.proofs.step.Statement.{statement}
+use Rattle.framer.proofs.step.Tie as tie
+
+may-use-requires : tie.Need-may-use-requires
+may-use-requires c κs = search needs
+
+enum-known-leave : tie.Need-enum-known-leave
+enum-known-leave c = search needs
+
+enum-told : tie.Need-enum-told
+enum-told c = search needs
+
+step-well-requires : tie.Need-step-well-requires
+step-well-requires c κs = let x = c .before .before .before .before .before .before .args in
+    use-granted (x .s) (x .carry .now) (x .chunk .now) (sym (c .before .before .before .may-use .ensures) ∙ c .before .enum-told .given .1) .ready
+
+returns : tie.Need-returns
+unfolding step
+returns c = rw (sym (c .before .before .before .may-use .ensures) ∙ c .before .leave .given .1) (record { number = refl; values = refl; state = refl; bytes = refl })
+
+same-length : tie.Need-same-length
+same-length c = search needs
+
+returns-2 : tie.Need-returns-2
+unfolding step
+returns-2 c = let r = c .before .before .step-well .ensures .0 in
+    rw (sym (c .before .before .before .before .before .before .may-use .ensures) ∙ c .before .before .before .before .enum-told .given .1) (record { number = rw r; values = rw r; state = rw r; bytes = c .before .before .step-well .ensures .1 })
+
+pub step-spec : {M : Type 1} → statement M
+step-spec =
+    tie.close
+    (tie.spec
+    may-use-requires
+    enum-known-leave
+    enum-told
+    step-well-requires
+    returns
+    same-length
+    returns-2)

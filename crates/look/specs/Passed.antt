@@ -1,0 +1,45 @@
+-- 01, "One step": repeat. The bytes that a step passes in silence, and where it stops.
+use mathlib.Core.Path.{_≡_}
+use Prim.Native.Nat.{ℕ, _+_, _-_, _≤_, _<_}
+use mathlib.Core.List.{List}
+use lib.ListN.{length, drop}
+use Rattle.window.specs.declared.Mode.{Mode}
+use Rattle.look.specs.declared.Kind.{Kind}
+use Rattle.look.specs.declared.Why.{Why}
+use Rattle.look.specs.declared.Verdict.{Verdict}
+use Rattle.look.specs.declared.Verdict.the-variants.{Wait, Tell, Hand}
+use Rattle.look.specs.declared.Sight.{Sight}
+use Rattle.look.specs.declared.Sight.the-variants.{Pass, Say}
+use Rattle.look.specs.Rules.{skip, size, far}
+use Rattle.look.specs.Moves.{cost, stepMove}
+
+-- the move at k bytes into a window W of which u bytes lie in the carry
+abbrev pub moveAt : Mode → ℕ → ℕ → ℕ → List ℕ → ℕ → Sight
+moveAt mode max cap u W k = stepMove mode max cap (u - k) (drop k W)
+
+-- each turn over the first n bytes of W passes what it looks at
+pub data Passed (mode : Mode) (max cap u : ℕ) (W : List ℕ) : ℕ → Type 0 where
+  start : Passed mode max cap u W 0
+  turn : (k n : ℕ) (y : Why) → Passed mode max cap u W k → moveAt mode max cap u W k ≡ Pass y → k + far y ≡ n → Passed mode max cap u W n
+
+-- k bytes are passed, and there v is said
+pub record Stops (mode : Mode) (max cap u : ℕ) (W : List ℕ) (k : ℕ) (v : Verdict) : Type 0 where
+  pub passed : Passed mode max cap u W k
+  pub within : k ≤ length W
+  pub there : moveAt mode max cap u W k ≡ Say v
+
+-- ---- staying within a window of w bytes, of which u lie in the carry
+
+-- the whole frame, with what is drained before its body
+abbrev pub whole : Kind → ℕ
+whole kind = skip kind + size kind
+
+-- what is said drains no more than there is, and a frame to hand out has passed the hand-out test
+abbrev pub Says : ℕ → ℕ → ℕ → Verdict → Type 0
+Says cap u w (Wait k) = k ≤ w
+Says cap u w (Tell t) = (0 < cost t) × (cost t ≤ w)
+Says cap u w (Hand kind) = (0 < whole kind) × (whole kind ≤ w) × (0 < u - skip kind → u - skip kind < size kind → size kind ≤ cap)
+
+abbrev pub Moves : ℕ → ℕ → ℕ → Sight → Type 0
+Moves cap u w (Pass y) = (0 < far y) × (far y ≤ w)
+Moves cap u w (Say v) = Says cap u w v

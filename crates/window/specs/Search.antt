@@ -1,0 +1,31 @@
+-- What the searches' inner functions answer.
+use mathlib.Core.Path.{_≡_}
+use Prim.Native.Nat.{ℕ, _+_, _≤_}
+use mathlib.Core.Bool.{Bool, false, _||_}
+use mathlib.Core.List.{List, [], _∷_}
+use lib.ListN.{length, drop}
+use lib.Dec.{eqb}
+use Rattle.window.specs.First.{first}
+use Rattle.window.specs.Sync.{isSync}
+use Rattle.window.specs.declared.Needle.{Needle}
+use Rattle.window.specs.declared.Needle.the-variants.{Sync, Cr}
+
+-- whether a byte is b
+abbrev pub is : ℕ → ℕ → Bool
+is b x = eqb x b
+
+-- whether a search looks for a byte
+abbrev pub told : Needle → ℕ → Bool
+told (Sync mode) = isSync mode
+told Cr = is 0x0D
+
+-- whether a byte that t tells is in a list
+unfoldable pub anyOf : (ℕ → Bool) → List ℕ → Bool
+anyOf t [] = false
+anyOf t (x ∷ xs) = t x || anyOf t xs
+
+-- from i on to r no byte is told
+pub record PastNone (t : ℕ → Bool) (xs : List ℕ) (i r : ℕ) : Type 0 where
+  pub low : i ≤ r
+  pub high : r ≤ length xs
+  pub same : i + first t (drop i xs) ≡ r + first t (drop r xs)

@@ -1,0 +1,21 @@
+-- 01, "Opening": the sync bytes of a mode, and the first of them in a window.
+use Prim.Native.Nat.{ℕ}
+use mathlib.Core.Bool.{Bool, false, _||_}
+use mathlib.Core.List.{List}
+use lib.Dec.{eqb}
+use Rattle.window.specs.First.{first}
+use Rattle.window.specs.declared.Mode.{Mode}
+use Rattle.window.specs.declared.Mode.the-variants.{One, Two, Three}
+
+-- the sync bytes that a mode has besides B5: none; D3; D3 and 24
+abbrev pub isMore : Mode → ℕ → Bool
+isMore One x = false
+isMore Two x = eqb x 0xD3
+isMore Three x = eqb x 0xD3 || eqb x 0x24
+
+abbrev pub isSync : Mode → ℕ → Bool
+isSync mode x = eqb x 0xB5 || isMore mode x
+
+-- the place of the first sync byte of the mode, or the length where there is none
+abbrev pub firstSync : Mode → List ℕ → ℕ
+firstSync mode xs = first (isSync mode) xs

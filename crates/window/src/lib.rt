@@ -1,0 +1,200 @@
+// Looking at the window: what is left of the carry, then what is left of the chunk, lent as two slices and read as one
+// list. Rust: parser/buffer.rs, `DualBuffer`, and constants.rs.
+ghost use mathlib.Core.Path.{_≡_};
+ghost use mathlib.Core.List.{_++_};
+ghost use Prim.Native.Nat.{_+_, _-_, _≤_, _<_};
+ghost use lib.ListN.{length, getD, take, drop};
+ghost use Rattle.sum.specs.Sum.{sumOf};
+ghost use Rattle.window.specs.Sync.{isSync, firstSync};
+ghost use Rattle.window.specs.EndMark.{endMark};
+ghost use Rattle.window.specs.First.{first};
+ghost use Rattle.window.specs.Search.{is, anyOf, told, PastNone};
+use sum::Sums;
+
+pub const UBX_SYNC_CHAR_1: u8 = 0xB5;
+pub const UBX_SYNC_CHAR_2: u8 = 0x62;
+pub const RTCM_SYNC_CHAR: u8 = 0xD3;
+pub const NMEA_SYNC_CHAR: u8 = 0x24;
+const NMEA_END_CHAR_1: u8 = 0x0D;
+const NMEA_END_CHAR_2: u8 = 0x0A;
+
+// One: UBX. Two: UBX and RTCM. Three: UBX, RTCM and NMEA.
+pub enum Mode {
+    One,
+    Two,
+    Three,
+}
+
+// Where a search found what it looks for.
+pub enum Found {
+    At(usize),
+    Nothing,
+}
+
+// What a search looks for: a sync byte of a mode, or CR.
+enum Needle {
+    Sync(Mode),
+    Cr,
+}
+
+// Whether a byte is a sync byte of the mode.
+pub fn is_sync(mode: Mode, x: u8) -> bool
+    ensures { λ r. ⌜ r ≡ isSync mode x ⌝ }
+{
+    if x == UBX_SYNC_CHAR_1 {
+        return true;
+    }
+    match mode {
+        Mode::One => false,
+        Mode::Two => x == RTCM_SYNC_CHAR,
+        Mode::Three => x == RTCM_SYNC_CHAR || x == NMEA_SYNC_CHAR,
+    }
+}
+
+// The window's byte at i.
+pub fn byte_at(a: &[u8], b: &[u8], i: usize) -> u8
+    requires { ⌜ i < length (now a) + length (now b) ⌝ }
+    ensures { λ r. ⌜ r ≡ getD (now (a .entry) ++ now (b .entry)) i 0 ⌝ }
+{
+    if i < a.len() { a[i] } else { b[i - a.len()] }
+}
+
+// Whether x is among the bytes: no way out on the way, so that many are compared at a time.
+fn has(s: &[u8], x: u8) -> bool
+    ensures { λ r. ⌜ r ≡ anyOf (is x) (now (s .entry)) ⌝ }
+{
+    let mut hit = false;
+    let mut j = 0;
+    while j < s.len() {
+        hit = hit | (s[j] == x);
+        j += 1;
+    }
+    hit
+}
+
+// Whether a sync byte of the mode is among the bytes.
+fn any_sync(mode: Mode, s: &[u8]) -> bool
+    ensures { λ r. ⌜ r ≡ anyOf (isSync mode) (now (s .entry)) ⌝ }
+{
+    if has(s, UBX_SYNC_CHAR_1) {
+        return true;
+    }
+    match mode {
+        Mode::One => false,
+        Mode::Two => has(s, RTCM_SYNC_CHAR),
+        Mode::Three => has(s, RTCM_SYNC_CHAR) || has(s, NMEA_SYNC_CHAR),
+    }
+}
+
+// Whether a byte is one that is looked for.
+fn tells(needle: Needle, x: u8) -> bool
+    ensures { λ r. ⌜ r ≡ told needle x ⌝ }
+{
+    match needle {
+        Needle::Sync(mode) => is_sync(mode, x),
+        Needle::Cr => x == NMEA_END_CHAR_1,
+    }
+}
+
+// Whether a byte that is looked for is among the bytes.
+fn any(needle: Needle, s: &[u8]) -> bool
+    ensures { λ r. ⌜ r ≡ anyOf (told needle) (now (s .entry)) ⌝ }
+{
+    match needle {
+        Needle::Sync(mode) => any_sync(mode, s),
+        Needle::Cr => has(s, NMEA_END_CHAR_1),
+    }
+}
+
+// From `from` on past whole blocks of `size` bytes that have none of what is looked for.
+fn past_blocks(needle: Needle, s: &[u8], from: usize, size: usize) -> usize
+    requires { ⌜ (from ≤ length (now s)) × (0 < size) ⌝ }
+    ensures { λ r. ⌜ PastNone (told needle) (now (s .entry)) from r ⌝ }
+{
+    let mut i = from;
+    while s.len() - i >= size {
+        let e = i + size;
+        if any(needle, &s[i..e]) {
+            break;
+        }
+        i = e;
+    }
+    i
+}
+
+// The place of the first byte of s that is looked for, or its length: past blocks that have none, then byte by byte.
+fn find_in(needle: Needle, s: &[u8]) -> usize
+    ensures { λ r. ⌜ r ≡ first (told needle) (now (s .entry)) ⌝ }
+{
+    let far = past_blocks(needle, s, 0, 128);
+    let mut i = past_blocks(needle, s, far, 16);
+    while i < s.len() {
+        if tells(needle, s[i]) {
+            break;
+        }
+        i += 1;
+    }
+    i
+}
+
+// The place of the window's first byte from k on that is looked for, or the window's length where there is none.
+fn find(needle: Needle, a: &[u8], b: &[u8], k: usize) -> usize
+    requires { ⌜ k ≤ length (now a) + length (now b) ⌝ }
+    ensures { λ r. ⌜ r ≡ k + first (told needle) (drop k (now (a .entry) ++ now (b .entry))) ⌝ }
+    ensures { λ r. ⌜ r ≤ length (now (a .entry)) + length (now (b .entry)) ⌝ }
+{
+    let la = a.len();
+    if k < la {
+        let i = k + find_in(needle, &a[k..]);
+        if i < la {
+            return i;
+        }
+        return la + find_in(needle, b);
+    }
+    let j = k - la;
+    k + find_in(needle, &b[j..])
+}
+
+// The place of the window's first sync byte from k on, or the window's length where there is none.
+pub fn find_sync(mode: Mode, a: &[u8], b: &[u8], k: usize) -> usize
+    requires { ⌜ k ≤ length (now a) + length (now b) ⌝ }
+    ensures { λ r. ⌜ r ≡ k + firstSync mode (drop k (now (a .entry) ++ now (b .entry))) ⌝ }
+    ensures { λ r. ⌜ r ≤ length (now (a .entry)) + length (now (b .entry)) ⌝ }
+{
+    find(Needle::Sync(mode), a, b, k)
+}
+
+// The sum of the window's bytes from `from` up to, not including, `to`.
+pub fn sum_of(a: &[u8], b: &[u8], from: usize, to: usize) -> Sums
+    requires { ⌜ (from ≤ to) × (to ≤ length (now a) + length (now b)) ⌝ }
+    ensures { λ r. ⌜ r ≡ sumOf (take (to - from) (drop from (now (a .entry) ++ now (b .entry)))) ⌝ }
+{
+    let la = a.len();
+    if to <= la {
+        return sum::update(sum::new(), &a[from..to]);
+    }
+    let end = to - la;
+    if la <= from {
+        let start = from - la;
+        return sum::update(sum::new(), &b[start..end]);
+    }
+    let first = sum::update(sum::new(), &a[from..]);
+    sum::update(first, &b[..end])
+}
+
+// The window's first CR that is followed at once by LF.
+pub fn find_end(a: &[u8], b: &[u8]) -> Found
+    ensures { λ r. ⌜ r ≡ endMark 0 (now (a .entry) ++ now (b .entry)) ⌝ }
+{
+    let w = a.len() + b.len();
+    let mut found = Found::Nothing;
+    let mut i = find(Needle::Cr, a, b, 0);
+    while i + 1 < w {
+        if byte_at(a, b, i + 1) == NMEA_END_CHAR_2 {
+            found = Found::At(i);
+            break;
+        }
+        i = find(Needle::Cr, a, b, i + 1);
+    }
+    found
+}
