@@ -6,10 +6,8 @@ use Prim.Native.Nat.{ℕ, zero, suc, _+_, _-_, _≤_, _<_}
 use native.Mathlib.Omega.{arith}
 use lib.ListN.{drop}
 use lib.Seq.{drop-drop}
-use Rattle.look.specs.declared.Sight.{Sight}
-use Rattle.look.specs.declared.Sight.the-variants.{Pass, Say}
-use Rattle.look.specs.declared.Verdict.{Verdict}
-use Rattle.look.specs.declared.Verdict.the-variants.{Wait, Tell, Hand}
+use Rattle.look.specs.declared.Sight.{Sight, the-variants.{Pass, Say}}
+use Rattle.look.specs.declared.Verdict.{Verdict, the-variants.{Wait, Tell, Hand}}
 use Rattle.look.specs.Rules.{skip, size, far}
 use Rattle.look.specs.Moves.{cost}
 use Rattle.look.specs.Passed.{whole, Says, Moves}

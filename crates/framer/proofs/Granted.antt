@@ -7,15 +7,15 @@ use native.Mathlib.Omega.{arith}
 use lib.ListN.{length}
 use lib.Dec.{ltb}
 use borrow.Author.Tests.{eqb-true, ltb-false, le-ltb, eq-eqb, not-false}
-use Rattle.window.specs.Pick.{pick, by-pick, pick-false}
+use Rattle.window.specs.Pick.{pick}
+use Rattle.window.proofs.Pick.{by-pick, pick-false}
 use Rattle.look.specs.declared.Kind.{Kind}
 use Rattle.look.specs.declared.Verdict.the-variants.{Hand}
 use Rattle.look.specs.Rules.{skip, size}
 use Rattle.look.specs.Passed.{Says}
 use Rattle.framer.specs.declared.Place.{Place}
 use Rattle.framer.specs.declared.State.{State}
-use Rattle.framer.specs.declared.Leave.{Leave}
-use Rattle.framer.specs.declared.Leave.the-variants.{Granted}
+use Rattle.framer.specs.declared.Leave.{Leave, the-variants.{Granted}}
 use Rattle.framer.specs.Words.{leftLen, width, drain}
 use Rattle.framer.specs.Refusals.{anyOf, idleBad, faults, isBad, mayOpen, mayUse}
 use Rattle.framer.specs.Operations.{noted, viewLeave}

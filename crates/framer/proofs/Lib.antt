@@ -3,3 +3,6 @@ pub mod Account
 pub mod Granted
 pub mod Turns
 pub mod Slices
+pub mod Totals
+pub mod Determined
+pub mod Bench

@@ -4,8 +4,7 @@ use mathlib.Core.List.{List}
 use Prim.Native.Nat.{ℕ, zero, suc, _+_, _-_, _≤_, _<_, min}
 use native.Mathlib.Nat.{add-zero}
 use native.Mathlib.Omega.{arith}
-use Rattle.look.specs.declared.Sight.{Sight}
-use Rattle.look.specs.declared.Sight.the-variants.{Pass, Say}
+use Rattle.look.specs.declared.Sight.{Sight, the-variants.{Pass, Say}}
 use Rattle.look.specs.declared.Verdict.{Verdict}
 use Rattle.look.specs.Rules.{far}
 use Rattle.look.specs.Passed.{moveAt, Passed, start, turn, Stops, Says, Moves}

@@ -11,7 +11,8 @@ use borrow.Author.Tests.{ltb-true, leb-true, leb-false, eqb-true, eqb-false, le-
 use Rattle.carry.specs.Carry.{drainCarry}
 use Rattle.carry.proofs.Laws.{drop-take}
 use Rattle.window.specs.declared.Mode.{Mode}
-use Rattle.window.specs.Pick.{pick, by-pick}
+use Rattle.window.specs.Pick.{pick}
+use Rattle.window.proofs.Pick.{by-pick}
 use Rattle.framer.specs.declared.Side.the-variants.{Carry, Chunk}
 use Rattle.framer.specs.declared.Place.{Place}
 use Rattle.framer.specs.declared.State.{State}

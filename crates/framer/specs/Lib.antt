@@ -7,3 +7,4 @@ pub mod Answers
 pub mod Promises
 pub mod Reached
 pub mod Ready
+pub mod Bench

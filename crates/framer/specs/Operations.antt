@@ -9,13 +9,11 @@ use Rattle.carry.specs.Carry.{drainCarry}
 use Rattle.window.specs.declared.Mode.{Mode}
 use Rattle.window.specs.Pick.{pick}
 use Rattle.window.specs.Sync.{firstSync}
-use Rattle.framer.specs.declared.Side.{Side}
-use Rattle.framer.specs.declared.Side.the-variants.{Carry, Chunk}
+use Rattle.framer.specs.declared.Side.{Side, the-variants.{Carry, Chunk}}
 use Rattle.framer.specs.declared.Place.{Place}
 use Rattle.framer.specs.declared.State.{State}
 use Rattle.framer.specs.declared.Refusal.the-variants.{CarryTooBig, BadPlace}
-use Rattle.framer.specs.declared.Leave.{Leave}
-use Rattle.framer.specs.declared.Leave.the-variants.{Granted, Denied}
+use Rattle.framer.specs.declared.Leave.{Leave, the-variants.{Granted, Denied}}
 use Rattle.framer.specs.declared.Opened.{Opened}
 use Rattle.framer.specs.declared.Closed.{Closed}
 use Rattle.framer.specs.Words.{leftLen, ahead, window, width, drain}

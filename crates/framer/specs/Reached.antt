@@ -4,10 +4,8 @@ use Prim.Native.Nat.{ℕ}
 use mathlib.Core.Bool.{Bool, true, false}
 use mathlib.Core.List.{List}
 use Rattle.framer.specs.declared.State.{State}
-use Rattle.framer.specs.declared.Leave.{Leave}
-use Rattle.framer.specs.declared.Leave.the-variants.{Granted, Denied}
-use Rattle.framer.specs.declared.Answer.{Answer}
-use Rattle.framer.specs.declared.Answer.the-variants.{UbxFrame, RtcmFrame, Sentence, WrongSum, NoRoom, NeedMore, Refused}
+use Rattle.framer.specs.declared.Leave.{Leave, the-variants.{Granted, Denied}}
+use Rattle.framer.specs.declared.Answer.{Answer, the-variants.{UbxFrame, RtcmFrame, Sentence, WrongSum, NoRoom, NeedMore, Refused}}
 use Rattle.framer.specs.Operations.{opening}
 use Rattle.framer.specs.Step.{step}
 

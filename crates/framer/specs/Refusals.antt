@@ -5,10 +5,8 @@ use mathlib.Core.List.{List, [], _∷_}
 use lib.Dec.{ltb, eqb}
 use Rattle.window.specs.Pick.{pick}
 use Rattle.framer.specs.declared.State.{State}
-use Rattle.framer.specs.declared.Refusal.{Refusal}
-use Rattle.framer.specs.declared.Refusal.the-variants.{CarryTooBig, BadState, AlreadyOpen, NotOpen, ChunkTooLong, OtherChunk, BadPlace}
-use Rattle.framer.specs.declared.Leave.{Leave}
-use Rattle.framer.specs.declared.Leave.the-variants.{Granted, Denied}
+use Rattle.framer.specs.declared.Refusal.{Refusal, the-variants.{CarryTooBig, BadState, AlreadyOpen, NotOpen, ChunkTooLong, OtherChunk, BadPlace}}
+use Rattle.framer.specs.declared.Leave.{Leave, the-variants.{Granted, Denied}}
 use Rattle.framer.specs.Words.{width}
 
 -- the table's numbers; a call that is not refused has 0

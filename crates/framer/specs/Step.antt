@@ -2,22 +2,16 @@
 use Prim.Native.Nat.{ℕ, zero, suc}
 use mathlib.Core.List.{List}
 use lib.ListN.{length}
-use Rattle.look.specs.declared.Kind.{Kind}
-use Rattle.look.specs.declared.Kind.the-variants.{Ubx, Rtcm, Sentence as KindSentence}
-use Rattle.look.specs.declared.Tale.{Tale}
-use Rattle.look.specs.declared.Tale.the-variants.{WrongSum as TaleWrongSum, NoRoom as TaleNoRoom}
-use Rattle.look.specs.declared.Verdict.{Verdict}
-use Rattle.look.specs.declared.Verdict.the-variants.{Wait, Tell, Hand}
-use Rattle.look.specs.declared.Sight.{Sight}
-use Rattle.look.specs.declared.Sight.the-variants.{Pass, Say}
+use Rattle.look.specs.declared.Kind.{Kind, the-variants.{Ubx, Rtcm, Sentence as KindSentence}}
+use Rattle.look.specs.declared.Tale.{Tale, the-variants.{WrongSum as TaleWrongSum, NoRoom as TaleNoRoom}}
+use Rattle.look.specs.declared.Verdict.{Verdict, the-variants.{Wait, Tell, Hand}}
+use Rattle.look.specs.declared.Sight.{Sight, the-variants.{Pass, Say}}
 use Rattle.look.specs.Rules.{skip, size, far}
 use Rattle.look.specs.Moves.{cost, stepMove}
 use Rattle.framer.specs.declared.Place.{Place}
 use Rattle.framer.specs.declared.State.{State}
-use Rattle.framer.specs.declared.Leave.{Leave}
-use Rattle.framer.specs.declared.Leave.the-variants.{Granted, Denied}
-use Rattle.framer.specs.declared.Answer.{Answer}
-use Rattle.framer.specs.declared.Answer.the-variants.{UbxFrame, RtcmFrame, Sentence, WrongSum, NoRoom, NeedMore, Refused}
+use Rattle.framer.specs.declared.Leave.{Leave, the-variants.{Granted, Denied}}
+use Rattle.framer.specs.declared.Answer.{Answer, the-variants.{UbxFrame, RtcmFrame, Sentence, WrongSum, NoRoom, NeedMore, Refused}}
 use Rattle.framer.specs.declared.Stepped.{Stepped}
 use Rattle.framer.specs.Words.{leftLen, window, width, drain}
 use Rattle.framer.specs.Refusals.{mayUse}

@@ -5,8 +5,7 @@ use lib.Seq.{paste}
 use lib.Dec.{ltb, leb, eqb}
 use Rattle.carry.specs.Carry.{drainCarry}
 use Rattle.window.specs.Pick.{pick}
-use Rattle.framer.specs.declared.Side.{Side}
-use Rattle.framer.specs.declared.Side.the-variants.{Carry, Chunk}
+use Rattle.framer.specs.declared.Side.{Side, the-variants.{Carry, Chunk}}
 use Rattle.framer.specs.declared.State.{State}
 use Rattle.framer.specs.declared.Taken.{Taken}
 use Rattle.framer.specs.Words.{leftLen, ahead, moved}

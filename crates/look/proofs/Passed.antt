@@ -8,11 +8,10 @@ use native.Mathlib.Omega.{arith}
 use lib.ListN.{length, drop, length-drop, drop-of-length-le}
 use lib.Seq.{drop-drop}
 use Rattle.window.specs.declared.Mode.{Mode}
-use Rattle.window.specs.Pick.{pick, by-pick}
-use Rattle.window.specs.First.{first}
-use Rattle.window.specs.Sync.{isSync, firstSync}
-use Rattle.look.specs.declared.Why.{Why}
-use Rattle.look.specs.declared.Why.the-variants.{NoSync}
+use Rattle.window.specs.Pick.{pick}
+use Rattle.window.proofs.Pick.{by-pick}
+use Rattle.window.specs.Sync.{isSync, firstSync, first}
+use Rattle.look.specs.declared.Why.{Why, the-variants.{NoSync}}
 use Rattle.look.specs.declared.Verdict.the-variants.{Wait}
 use Rattle.look.specs.declared.Sight.the-variants.{Pass, Say}
 use Rattle.look.specs.Rules.{far, look}

@@ -11,13 +11,12 @@ use borrow.Author.Tests.{leb-true, lt-ltb, le-ltb, eq-eqb, ne-eqb}
 use Rattle.sum.specs.declared.Sums.{Sums}
 use Rattle.sum.specs.Sum.{sumOf, pairOf}
 use Rattle.window.specs.declared.Mode.{Mode}
-use Rattle.window.specs.declared.Found.{Found}
-use Rattle.window.specs.declared.Found.the-variants.{Nothing}
-use Rattle.window.specs.Pick.{pick, pick-true}
+use Rattle.window.specs.declared.Found.{Found, the-variants.{Nothing}}
+use Rattle.window.specs.Pick.{pick}
+use Rattle.window.proofs.Pick.{pick-true}
 use Rattle.window.specs.Sync.{isSync, firstSync}
 use Rattle.window.specs.EndMark.{endMark}
-use Rattle.look.specs.declared.Kind.{Kind}
-use Rattle.look.specs.declared.Kind.the-variants.{Ubx, Rtcm, Sentence}
+use Rattle.look.specs.declared.Kind.{Kind, the-variants.{Ubx, Rtcm, Sentence}}
 use Rattle.look.specs.declared.Why.the-variants.{NoSync, NotPair, OverMax}
 use Rattle.look.specs.declared.Verdict.the-variants.{Wait, Hand}
 use Rattle.look.specs.declared.Sight.the-variants.{Pass, Say}

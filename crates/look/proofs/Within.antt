@@ -8,12 +8,10 @@ use lib.ListN.{length}
 use lib.Dec.{ltb, leb}
 use borrow.Author.Tests.{ltb-false, leb-true, lt-ltb}
 use Rattle.window.specs.declared.Mode.{Mode}
-use Rattle.window.specs.declared.Found.{Found}
-use Rattle.window.specs.declared.Found.the-variants.{At, Nothing}
-use Rattle.window.specs.Pick.{by-pick}
+use Rattle.window.specs.declared.Found.{Found, the-variants.{At, Nothing}}
+use Rattle.window.proofs.Pick.{by-pick}
 use Rattle.window.specs.EndMark.{endMark}
-use Rattle.look.specs.declared.Kind.{Kind}
-use Rattle.look.specs.declared.Kind.the-variants.{Ubx, Rtcm, Sentence}
+use Rattle.look.specs.declared.Kind.{Kind, the-variants.{Ubx, Rtcm, Sentence}}
 use Rattle.look.specs.Rules.{skip, size, back, far, Look, need, pass, claim, lookUbx, lookRtcm, endAt, lookNmea, look}
 use Rattle.look.specs.Moves.{canHand, judge, lacks, settled, stepMove}
 use Rattle.look.specs.Passed.{whole, Says, Moves}

@@ -8,14 +8,10 @@ use Rattle.sum.specs.declared.Sums.{Sums}
 use Rattle.sum.specs.Sum.{sumOf, pairOf}
 use Rattle.window.specs.declared.Mode.{Mode}
 use Rattle.window.specs.Pick.{pick}
-use Rattle.look.specs.declared.Kind.{Kind}
-use Rattle.look.specs.declared.Kind.the-variants.{Ubx, Rtcm, Sentence}
-use Rattle.look.specs.declared.Tale.{Tale}
-use Rattle.look.specs.declared.Tale.the-variants.{WrongSum, NoRoom}
-use Rattle.look.specs.declared.Verdict.{Verdict}
-use Rattle.look.specs.declared.Verdict.the-variants.{Wait, Tell, Hand}
-use Rattle.look.specs.declared.Sight.{Sight}
-use Rattle.look.specs.declared.Sight.the-variants.{Pass, Say}
+use Rattle.look.specs.declared.Kind.{Kind, the-variants.{Ubx, Rtcm, Sentence}}
+use Rattle.look.specs.declared.Tale.{Tale, the-variants.{WrongSum, NoRoom}}
+use Rattle.look.specs.declared.Verdict.{Verdict, the-variants.{Wait, Tell, Hand}}
+use Rattle.look.specs.declared.Sight.{Sight, the-variants.{Pass, Say}}
 use Rattle.look.specs.Rules.{skip, size, back, Look, need, pass, claim, look}
 
 -- the hand-out test (drain d, take t) where u of the window's w bytes lie in the carry: at least d + t bytes in the window

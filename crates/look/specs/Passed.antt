@@ -6,10 +6,8 @@ use lib.ListN.{length, drop}
 use Rattle.window.specs.declared.Mode.{Mode}
 use Rattle.look.specs.declared.Kind.{Kind}
 use Rattle.look.specs.declared.Why.{Why}
-use Rattle.look.specs.declared.Verdict.{Verdict}
-use Rattle.look.specs.declared.Verdict.the-variants.{Wait, Tell, Hand}
-use Rattle.look.specs.declared.Sight.{Sight}
-use Rattle.look.specs.declared.Sight.the-variants.{Pass, Say}
+use Rattle.look.specs.declared.Verdict.{Verdict, the-variants.{Wait, Tell, Hand}}
+use Rattle.look.specs.declared.Sight.{Sight, the-variants.{Pass, Say}}
 use Rattle.look.specs.Rules.{skip, size, far}
 use Rattle.look.specs.Moves.{cost, stepMove}
 

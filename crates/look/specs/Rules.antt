@@ -6,15 +6,12 @@ use lib.ListN.{length, getD, drop}
 use lib.Dec.{ltb, eqb}
 use Rattle.sum.specs.Sum.{pairOf}
 use Rattle.window.specs.declared.Mode.{Mode}
-use Rattle.window.specs.declared.Found.{Found}
-use Rattle.window.specs.declared.Found.the-variants.{At, Nothing}
+use Rattle.window.specs.declared.Found.{Found, the-variants.{At, Nothing}}
 use Rattle.window.specs.Pick.{pick}
 use Rattle.window.specs.Sync.{isSync, firstSync}
 use Rattle.window.specs.EndMark.{endMark}
-use Rattle.look.specs.declared.Kind.{Kind}
-use Rattle.look.specs.declared.Kind.the-variants.{Ubx, Rtcm, Sentence}
-use Rattle.look.specs.declared.Why.{Why}
-use Rattle.look.specs.declared.Why.the-variants.{NoSync, NotPair, OverMax}
+use Rattle.look.specs.declared.Kind.{Kind, the-variants.{Ubx, Rtcm, Sentence}}
+use Rattle.look.specs.declared.Why.{Why, the-variants.{NoSync, NotPair, OverMax}}
 
 -- what is drained before a frame's body, the body's length, and what is drained where there is no room for it
 abbrev pub skip : Kind → ℕ

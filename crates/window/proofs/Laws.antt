@@ -8,9 +8,9 @@ use native.Mathlib.Omega.{arith}
 use lib.ListN.{length, getD, take, drop, length-drop, take-append-drop, drop-of-length-le, List·getD-append}
 use lib.Seq.{drop-cons, drop-drop, getD-drop, getD-append-add, length-take-le, take-all, drop-append-le, drop-append-add, take-append-le, take-append-add}
 use lib.Dec.{eqb}
-use Rattle.window.specs.Pick.{pick, by-pick}
-use Rattle.window.specs.First.{first}
-use Rattle.window.specs.Sync.{isMore, isSync}
+use Rattle.window.specs.Pick.{pick}
+use Rattle.window.proofs.Pick.{by-pick}
+use Rattle.window.specs.Sync.{isMore, isSync, first}
 use Rattle.window.specs.EndMark.{endMark}
 use Rattle.window.specs.Search.{is, anyOf}
 use Rattle.window.specs.declared.Mode.{Mode}

@@ -4,8 +4,7 @@ use mathlib.Core.Bool.{_&&_}
 use mathlib.Core.List.{List, [], _∷_}
 use lib.Dec.{eqb}
 use Rattle.window.specs.Pick.{pick}
-use Rattle.window.specs.declared.Found.{Found}
-use Rattle.window.specs.declared.Found.the-variants.{At, Nothing}
+use Rattle.window.specs.declared.Found.{Found, the-variants.{At, Nothing}}
 
 -- the place of the first CR that is followed at once by LF, the list's own first place being i
 unfoldable pub endMark : ℕ → List ℕ → Found

@@ -1,5 +1,4 @@
 pub mod Pick
-pub mod First
 pub mod Sync
 pub mod EndMark
 pub mod Search

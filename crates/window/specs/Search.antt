@@ -5,10 +5,8 @@ use mathlib.Core.Bool.{Bool, false, _||_}
 use mathlib.Core.List.{List, [], _∷_}
 use lib.ListN.{length, drop}
 use lib.Dec.{eqb}
-use Rattle.window.specs.First.{first}
-use Rattle.window.specs.Sync.{isSync}
-use Rattle.window.specs.declared.Needle.{Needle}
-use Rattle.window.specs.declared.Needle.the-variants.{Sync, Cr}
+use Rattle.window.specs.Sync.{isSync, first}
+use Rattle.window.specs.declared.Needle.{Needle, the-variants.{Sync, Cr}}
 
 -- whether a byte is b
 abbrev pub is : ℕ → ℕ → Bool

@@ -5,9 +5,8 @@ ghost use mathlib.Core.List.{_++_};
 ghost use Prim.Native.Nat.{_+_, _-_, _≤_, _<_};
 ghost use lib.ListN.{length, getD, take, drop};
 ghost use Rattle.sum.specs.Sum.{sumOf};
-ghost use Rattle.window.specs.Sync.{isSync, firstSync};
+ghost use Rattle.window.specs.Sync.{isSync, firstSync, first};
 ghost use Rattle.window.specs.EndMark.{endMark};
-ghost use Rattle.window.specs.First.{first};
 ghost use Rattle.window.specs.Search.{is, anyOf, told, PastNone};
 use sum::Sums;
 

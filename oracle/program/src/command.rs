@@ -10,6 +10,8 @@ use crate::{compare, mutants, vectors};
 pub struct Options {
     serve: String,
     emulator: String,
+    /// Which Rust and which library are compared, in lines.
+    pub about: String,
     pub seed: u64,
     pub seconds: Option<u64>,
     pub calls: Option<u64>,
@@ -28,6 +30,7 @@ impl Options {
             match word.as_str() {
                 "--serve" => options.serve = value()?,
                 "--emulator" => options.emulator = value()?,
+                "--about" => options.about = std::fs::read_to_string(value()?).unwrap_or_default(),
                 "--seed" => options.seed = number(&value()?)?,
                 "--seconds" => options.seconds = Some(number(&value()?)?),
                 "--calls" => options.calls = Some(number(&value()?)?),

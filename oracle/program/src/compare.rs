@@ -33,8 +33,8 @@ pub fn command(options: &Options) -> Result<i32, String> {
         None => guarded(&mut families, &mut run, options.seed),
     };
     if let Stop::Difference(found) = stop {
-        println!("# {}, after {} calls, seed {}", found.place, found.calls, options.seed);
-        print!("{}", found.script);
+        say!("# {}, after {} calls, seed {}\n", found.place, found.calls, options.seed);
+        say!("{}", found.script);
         return Ok(1);
     }
     if options.capture.is_some() {
@@ -65,18 +65,20 @@ fn over_capture(run: &mut Run, seed: u64, file: &str) -> Result<Stop, String> {
 
 fn report(run: &Run, families: &[Box<dyn Family>], options: &Options, lived: u64) {
     let (calls, seconds) = (run.counts.total(), run.seconds());
-    let second = if options.model { "the third reading" } else { "the library" };
-    println!("ublox 0.10.0 against {second}, seed {}", options.seed);
-    print!("{}", run.counts);
-    println!("inputs");
-    match &options.capture {
-        Some(file) => println!("  {file}"),
-        None => families.iter().for_each(|family| println!("  {}", family.progress())),
+    say!("{}", options.about);
+    if options.model {
+        say!("the third reading stands in for the library\n");
     }
-    println!("the Rust kept alive and made anew: {} calls, no difference", grouped(lived));
+    say!("{}", run.counts);
+    say!("inputs\n");
+    match &options.capture {
+        Some(file) => say!("  {file}\n"),
+        None => families.iter().for_each(|family| say!("  {}\n", family.progress())),
+    }
+    say!("the Rust kept alive and made anew: {} calls, no difference\n", grouped(lived));
     let a_second = (calls as f64 / seconds) as u64;
-    println!("{seconds:.0} s, {} calls a second", grouped(a_second));
-    println!("{} calls, 0 differences", grouped(calls));
+    say!("seed {}, {seconds:.0} s, {} calls a second\n", options.seed, grouped(a_second));
+    say!("{} calls, 0 differences\n", grouped(calls));
 }
 
 /// Does the calls of a script on both sides, and prints what each said.
@@ -94,18 +96,18 @@ fn replay(options: &Options) -> Result<i32, String> {
         rust.call(*call, &mut expected);
         let (got, later) = rest.split_at(expected.len().min(rest.len()));
         let text = |reply| script::reply_text(*call, reply, script.carry.len());
-        print!("{}\n{}", script::call_text(*call), script::comment("the Rust", &text(&expected)));
+        say!("{}\n{}", script::call_text(*call), script::comment("the Rust", &text(&expected)));
         if let Some(how) = &ended {
-            println!("{how}");
+            say!("{how}\n");
             return Ok(1);
         }
-        print!("{}", script::comment("second", &text(got)));
+        say!("{}", script::comment("second", &text(got)));
         if got != expected {
-            println!("this differs");
+            say!("this differs\n");
             return Ok(1);
         }
         rest = later;
     }
-    println!("{} calls, 0 differences", script.calls.len());
+    say!("{} calls, 0 differences\n", script.calls.len());
     Ok(0)
 }

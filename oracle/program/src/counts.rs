@@ -67,7 +67,11 @@ pub fn place_kind(before: &State, after: &State, out: &[u64; 16]) -> usize {
     let head = if out[0] == UBX_FRAME { 6 } else { 0 };
     let off = before[OFF] + (out[1] - before[USED]) + head;
     let moved = out[5] != off || (off == 0 && out[6] == before[C]);
-    if moved { 3 } else { 2 }
+    if moved {
+        3
+    } else {
+        2
+    }
 }
 
 impl fmt::Display for Counts {

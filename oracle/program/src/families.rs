@@ -89,12 +89,8 @@ fn setting(random: &mut Random, size: Size) -> Setting {
     let mode = random.between(1, 3) as u64;
     let limit = LIMIT as usize;
     match size {
-        Size::Tiny => {
-            Setting { mode, max: limit_up_to(random, 32), c: random.edge(0, 40) }
-        }
-        Size::Small => {
-            Setting { mode, max: limit_up_to(random, 130), c: random.edge(0, 130) }
-        }
+        Size::Tiny => Setting { mode, max: limit_up_to(random, 32), c: random.edge(0, 40) },
+        Size::Small => Setting { mode, max: limit_up_to(random, 130), c: random.edge(0, 130) },
         Size::Fitting => {
             let max = limit_up_to(random, 1027);
             let c = match random.below(3) {

@@ -24,11 +24,7 @@ pub fn check(seed: u64, sessions: usize) -> Result<u64, String> {
 }
 
 fn session<const MAX: u16>(random: &mut Random) -> Result<u64, String> {
-    let setting = Setting {
-        mode: random.between(1, 3) as u64,
-        max: MAX,
-        c: random.edge(0, 60),
-    };
+    let setting = Setting { mode: random.between(1, 3) as u64, max: MAX, c: random.edge(0, 60) };
     let stream = bytes::stream(random, &setting, 150);
     let mut chunks: Vec<(&[u8], usize)> = Vec::new();
     let mut rest = &stream[..];

@@ -1,5 +1,13 @@
 //! The comparing program: the Rust against the library, its wrong versions, and the vectors.
 
+/// Writes to standard output; nobody reading it is no reason to stop.
+macro_rules! say {
+    ($($text:tt)*) => {{
+        use std::io::Write;
+        let _ = write!(std::io::stdout(), $($text)*);
+    }};
+}
+
 mod bytes;
 mod command;
 mod compare;

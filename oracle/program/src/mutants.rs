@@ -29,10 +29,10 @@ pub fn command(options: &Options) -> Result<i32, String> {
     }
     let right = difference(model(Box::new(AsWritten)), 0, options.seed, RIGHT);
     match &right {
-        None => println!("the right version: {} calls, 0 differences", grouped(RIGHT)),
-        Some(found) => println!("THE RIGHT VERSION DIFFERS\n{}", found.script),
+        None => say!("the right version: {} calls, 0 differences\n", grouped(RIGHT)),
+        Some(found) => say!("THE RIGHT VERSION DIFFERS\n{}\n", found.script),
     }
-    println!("{caught} wrong versions caught, {missed} missed");
+    say!("{caught} wrong versions caught, {missed} missed\n");
     Ok(i32::from(missed > 0 || right.is_some()))
 }
 
@@ -57,11 +57,11 @@ fn tell(what: &str, found: Option<Difference>, caught: &mut u32, missed: &mut u3
     match found {
         Some(Difference { calls, place, .. }) => {
             *caught += 1;
-            println!("caught  {what}: {place}, after {} calls", grouped(calls));
+            say!("caught  {what}: {place}, after {} calls\n", grouped(calls));
         }
         None => {
             *missed += 1;
-            println!("MISSED  {what}");
+            say!("MISSED  {what}\n");
         }
     }
 }

@@ -203,7 +203,11 @@ impl Run {
     /// Where in its room a buffer stands: anywhere; 255 lends an empty one as a null pointer.
     fn shift(&mut self) -> u64 {
         let shift = self.shifts.word() & 127;
-        if shift > 63 { 255 } else { shift }
+        if shift > 63 {
+            255
+        } else {
+            shift
+        }
     }
 }
 

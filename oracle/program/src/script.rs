@@ -203,7 +203,9 @@ fn first_line(call: Call, expected: &str, got: &str) -> String {
     let mut lines = expected.lines().map(Some).chain(std::iter::repeat(None)).zip(got.lines());
     match lines.find(|(expected, got)| *expected != Some(*got)) {
         Some((None, line)) => format!("{name} {line}"),
-        Some((_, line)) => format!("{name} differs in its {}", line.split(' ').next().unwrap_or("")),
+        Some((_, line)) => {
+            format!("{name} differs in its {}", line.split(' ').next().unwrap_or(""))
+        }
         None => format!("{name} said too little"),
     }
 }

@@ -61,9 +61,7 @@ impl Library {
         };
         drop(process.stdin.take());
         match process.wait() {
-            Ok(status) if status.signal() == Some(14) => {
-                "the call did not come back".to_string()
-            }
+            Ok(status) if status.signal() == Some(14) => "the call did not come back".to_string(),
             Ok(status) => format!("the library's process ended: {status}"),
             Err(error) => format!("the library's process: {error}"),
         }

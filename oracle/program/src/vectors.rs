@@ -30,7 +30,7 @@ fn write(folder: &str, name: &str, list: List) -> Result<(), String> {
     std::fs::create_dir_all(folder).map_err(failed)?;
     std::fs::write(&path, &list.bytes).map_err(failed)?;
     let (records, bytes, longest) = (list.records, list.bytes.len(), list.longest);
-    println!("{name}: {records} records, {bytes} bytes, the longest record {longest} bytes");
-    print!("{}", list.about);
+    say!("{name}: {records} records, {bytes} bytes, the longest record {longest} bytes\n");
+    say!("{}", list.about);
     Ok(())
 }

@@ -15,10 +15,17 @@ use std::mem::ManuallyDrop;
 /// included, as in the Rust.
 #[derive(Clone, Copy, Debug, PartialEq, Eq)]
 pub enum Said {
-    Ubx { class: u8, id: u8, payload: Lies },
+    Ubx {
+        class: u8,
+        id: u8,
+        payload: Lies,
+    },
     Rtcm(Lies),
     Sentence(Lies),
-    WrongSum { expect: u16, got: u16 },
+    WrongSum {
+        expect: u16,
+        got: u16,
+    },
     NoRoom(usize),
     NeedMore,
     /// An error that framing does not have.
@@ -60,7 +67,13 @@ pub fn open(mode: u64, carry: &mut [u8], live: usize, chunk: &[u8]) -> Numbers {
 /// What the Rust's `next` says, and the numbers after it. The limit is one of `LIMITS`.
 pub fn step(mode: u64, max: u16, sides: Sides) -> (Said, Numbers) {
     let at = LIMITS.binary_search(&max).expect("a payload limit that the oracle was built for");
-    let which = if mode == 1 { 0 } else if mode == 2 { 1 } else { 2 };
+    let which = if mode == 1 {
+        0
+    } else if mode == 2 {
+        1
+    } else {
+        2
+    };
     STEPS[at][which](sides)
 }
 

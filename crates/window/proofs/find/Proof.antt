@@ -2,7 +2,7 @@
 use Prim.Native.Nat.{_-_, _≤_, _<_}
 use native.Mathlib.Omega.{arith}
 use lib.ListN.{length, drop}
-use Rattle.window.specs.First.{first}
+use Rattle.window.specs.Sync.{first}
 use Rattle.window.specs.Search.{told}
 use Rattle.window.proofs.Laws.{first-le, first-part, found-left, found-over, found-right}
 use borrow.Author.Needs.{needs}

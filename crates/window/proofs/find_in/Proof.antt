@@ -4,7 +4,7 @@ use Prim.Native.Nat.{_+_, _-_, _≤_}
 use native.Mathlib.Numerals.{add-one}
 use native.Mathlib.Omega.{arith}
 use lib.ListN.{length, drop}
-use Rattle.window.specs.First.{first}
+use Rattle.window.specs.Sync.{first}
 use Rattle.window.specs.Search.{told}
 use Rattle.window.proofs.Laws.{first-here, first-next, first-end}
 use borrow.Author.Needs.{needs}

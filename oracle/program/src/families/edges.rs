@@ -78,7 +78,8 @@ fn rtcm(run: &mut Run, random: &mut Random) -> Result<(), Stop> {
     let frame = stream.len();
     bytes::put_rtcm_head(&mut stream, n, random.byte() & 63);
     bytes::put_payload(random, &mut stream, n);
-    let setting = Setting { mode: random.between(2, 3) as u64, max: random.pick(&[0, 16, 240]), c: 0 };
+    let setting =
+        Setting { mode: random.between(2, 3) as u64, max: random.pick(&[0, 16, 240]), c: 0 };
     let edges = [n + 3, n + 3, n, 1026];
     let cuts = [1, 2, 3, 4, n + 1, n + 2, n + 3, n / 2];
     in_two(run, random, setting, stream, frame, &edges, &cuts)

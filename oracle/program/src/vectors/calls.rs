@@ -30,7 +30,7 @@ struct Chosen {
 
 /// Carry and chunk of at most so many bytes: how many records of a situation, and how many in all.
 const SIZES: [(usize, usize, usize); 4] =
-    [(24, 2, usize::MAX), (130, 1, 240), (270, 1, 30), (1100, 1, 0)];
+    [(24, 1, usize::MAX), (130, 1, 200), (270, 1, 24), (1100, 1, 0)];
 
 pub fn list() -> Result<List, String> {
     let chosen = Rc::new(RefCell::new(Chosen::default()));
@@ -131,12 +131,14 @@ fn situation(record: &Record) -> Vec<i64> {
             key.extend([in_carry.min(2), in_chunk.min(2), word(C).min(1)]);
         }
         Call::Close => {
-            key.extend([word(OFF).min(1), i64::from(before[OFF] == before[LIVE]), word(LIVE).min(1)]);
+            key.extend([
+                word(OFF).min(1),
+                i64::from(before[OFF] == before[LIVE]),
+                word(LIVE).min(1),
+            ]);
             key.extend([(w - word(C)).clamp(-1, 2), word(PART_USED).min(1), w.min(1)]);
         }
         _ => {
-            let sides = [word(OFF).min(1), word(PART_USED).min(1), (word(LIVE) - word(OFF)).min(1)];
-            key.extend(sides);
             key.push(out[0] as i64);
             key.extend(step_situation(record, w));
         }
@@ -158,7 +160,9 @@ fn step_situation(record: &Record, w: i64) -> Vec<i64> {
             let copied = if place >= 2 { spare.clamp(-2, 2) } else { 0 };
             vec![skipped, place, copied, (taken - c).clamp(-1, 1), at_max, near_edge(taken)]
         }
-        WRONG_SUM => vec![skipped, w.clamp(8, 9)],
+        WRONG_SUM => {
+            vec![skipped, (w - c).clamp(-1, 1), (before[LIVE] - before[OFF]).min(2) as i64]
+        }
         NO_ROOM => {
             vec![skipped, (out[2] as i64 - c).clamp(-2, 2), (w - c).clamp(1, 2), near_edge(w)]
         }

@@ -18,7 +18,8 @@ struct Records {
     numbers: [usize; 9],
 }
 
-const LENGTH: usize = 2 + 2 * 4 + 3 * 8 + 2 * STATE_WORDS * 8 + 8 * 8;
+/// 32 words: operation, two lengths, three arguments, nine state words before, nine after, eight out.
+const LENGTH: usize = 32 * 8;
 
 pub fn list() -> List {
     let mut records = Records::default();
@@ -75,11 +76,9 @@ impl Records {
             Call::View { side, start, length } => [side, start, length],
             _ => [0; 3],
         };
-        self.bytes.extend([call.operation() as u8 + 1, 0]);
-        for length in [carry_length, chunk_length] {
-            self.bytes.extend((length as u32).to_le_bytes());
-        }
-        let words = arguments.iter().chain(&before[..9]).chain(&after[..9]).chain(&out[..8]);
+        let call_words = [call.operation() as u64 + 1, carry_length as u64, chunk_length as u64];
+        let state_words = before[..STATE_WORDS].iter().chain(&after[..STATE_WORDS]);
+        let words = call_words.iter().chain(&arguments).chain(state_words).chain(&out[..8]);
         words.for_each(|word| self.bytes.extend(word.to_le_bytes()));
         self.records += 1;
         self.numbers[call.refusal(&out) as usize] += 1;
@@ -167,8 +166,19 @@ fn every_view(records: &mut Records) {
     for side in [0, 1] {
         let end = if side == 0 { 23 } else { 9 };
         let places = [
-            (0, 0), (0, end), (0, end + 1), (end, 0), (end, 1), (end + 1, 0), (1, end - 1), (1, end),
-            (end - 1, 1), (u64::MAX, 1), (1, u64::MAX), (u64::MAX, u64::MAX), (1 << 32, 0),
+            (0, 0),
+            (0, end),
+            (0, end + 1),
+            (end, 0),
+            (end, 1),
+            (end + 1, 0),
+            (1, end - 1),
+            (1, end),
+            (end - 1, 1),
+            (u64::MAX, 1),
+            (1, u64::MAX),
+            (u64::MAX, u64::MAX),
+            (1 << 32, 0),
             (u64::MAX - 1, 3),
         ];
         for (start, length) in places {
