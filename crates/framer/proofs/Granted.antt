@@ -131,7 +131,14 @@ module _ (s : State) (carry chunk : List ℕ) where
       let r = u .ready in
       let k = r .sane in
       let nb : isBad s (length carry) ≡ false = not-bad s (length carry) (record {
-        caps = k .caps; small = r .small; lives = k .lives; offs = k .offs; parts = k .parts; short = r .short; counts = r .counts; idles = rw (u .opened);
+        caps = k .caps;
+        small = r .small;
+        lives = k .lives;
+        offs = k .offs;
+        parts = k .parts;
+        short = r .short;
+        counts = r .counts;
+        idles = rw (u .opened);
       }) in
       rw (nb, pick-false, u .opened, pick-false, eq-eqb (length chunk) (s .chunk) (k .chunks), pick-false)
 

@@ -19,11 +19,17 @@ use window::Found;
 use window::Mode;
 
 const UBX_SYNC_SIZE: usize = 2;
+
 const UBX_HEADER_LEN: usize = 6;
+
 const UBX_CHECKSUM_LEN: usize = 2;
+
 const RTCM_HEADER_SIZE: usize = 3;
+
 const NMEA_END_CHARS_LEN: usize = 2;
+
 const NMEA_MIN_BUFFER_SIZE: usize = 8;
+
 const NMEA_MAX_SENTENCE_LENGTH: usize = 82;
 
 // A frame that a head claims: UBX with class, id and n; RTCM with n; a sentence whose CR stands at i.
@@ -70,7 +76,11 @@ pub fn skip(kind: Kind) -> usize
     ensures { λ r. ⌜ r ≡ skip kind ⌝ }
 {
     match kind {
-        Kind::Ubx { class: _, id: _, n: _ } => UBX_HEADER_LEN,
+        Kind::Ubx {
+            class: _,
+            id: _,
+            n: _,
+        } => UBX_HEADER_LEN,
         Kind::Rtcm { n: _ } => 0,
         Kind::Sentence { i: _ } => 0,
     }

@@ -11,10 +11,15 @@ ghost use Rattle.window.specs.Search.{is, anyOf, told, PastNone};
 use sum::Sums;
 
 pub const UBX_SYNC_CHAR_1: u8 = 0xB5;
+
 pub const UBX_SYNC_CHAR_2: u8 = 0x62;
+
 pub const RTCM_SYNC_CHAR: u8 = 0xD3;
+
 pub const NMEA_SYNC_CHAR: u8 = 0x24;
+
 const NMEA_END_CHAR_1: u8 = 0x0D;
+
 const NMEA_END_CHAR_2: u8 = 0x0A;
 
 // One: UBX. Two: UBX and RTCM. Three: UBX, RTCM and NMEA.

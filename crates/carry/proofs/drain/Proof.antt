@@ -44,12 +44,12 @@ loop-less c = search needs
 
 loop-again : tie.Need-loop-again Inv-loop μ-loop
 loop-again c = let at = c .before .before in let x = at .before .before .before .args in (
-      omega arith,
-      (
-        rw (at .loop .inv .1 .0) (move-turn (x .carry .now) (x .k) (at .loop .i) (omega arith)),
-        length-set (at .loop .carry) (at .loop .i) (getD (at .loop .carry) (x .k + at .loop .i) 0) ∙ at .loop .inv .1 .1,
-      ),
-    )
+  omega arith,
+  (
+    rw (at .loop .inv .1 .0) (move-turn (x .carry .now) (x .k) (at .loop .i) (omega arith)),
+    length-set (at .loop .carry) (at .loop .i) (getD (at .loop .carry) (x .k + at .loop .i) 0) ∙ at .loop .inv .1 .1,
+  ),
+)
 
 same-length : tie.Need-same-length Inv-loop μ-loop
 same-length c = search needs

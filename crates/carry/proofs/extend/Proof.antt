@@ -35,12 +35,12 @@ loop-less c = search needs
 
 loop-again : tie.Need-loop-again Inv-loop μ-loop
 loop-again c = let at = c .before .before in let x = at .before .args in (
-      omega arith,
-      (
-        rw (at .loop .inv .1 .0, add-one) (paste-suc (x .carry .now) (x .live) (x .from .now) (at .loop .i) 0 (omega arith) (omega arith)),
-        length-set (at .loop .carry) (x .live + at .loop .i) (getD (x .from .now) (at .loop .i) 0) ∙ at .loop .inv .1 .1,
-      ),
-    )
+  omega arith,
+  (
+    rw (at .loop .inv .1 .0, add-one) (paste-suc (x .carry .now) (x .live) (x .from .now) (at .loop .i) 0 (omega arith) (omega arith)),
+    length-set (at .loop .carry) (x .live + at .loop .i) (getD (x .from .now) (at .loop .i) 0) ∙ at .loop .inv .1 .1,
+  ),
+)
 
 add-result : tie.Need-add-result Inv-loop μ-loop
 add-result c = search needs
