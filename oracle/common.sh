@@ -25,16 +25,13 @@ take_options() {
     done
 }
 
-# Builds what is not built yet; what the build says is kept, and shown where it fails.
+# Builds what is not built yet. What the build says is kept in build.log; what went wrong is shown.
 build_quietly() {
     mkdir -p "$build"
     set -- --source "$source"
     [ -z "$library" ] || set -- "$@" --library "$library"
     [ -z "$without_library" ] || set -- "$@" --without-library
-    "$root/oracle/build" "$@" >"$build/build.log" 2>&1 || {
-        cat "$build/build.log" >&2
-        die "the build failed"
-    }
+    "$root/oracle/build" "$@" >"$build/build.log" || die "the build failed; $build/build.log has the rest"
 }
 
 # Runs the comparing program: its command, then what take_options left. Its exit status is ours.

@@ -36,11 +36,11 @@ unfolding pick
 any-last true = refl
 any-last false = refl
 
-abbrev AllFalse : List Bool → Type 0
+abbrev pub AllFalse : List Bool → Type 0
 AllFalse [] = Unit {0}
 AllFalse (b ∷ bs) = (b ≡ false) × AllFalse bs
 
-none-of : (bs : List Bool) → anyOf bs ≡ false → AllFalse bs
+pub none-of : (bs : List Bool) → anyOf bs ≡ false → AllFalse bs
 none-of [] e = tt
 none-of (b ∷ bs) e =
     let go : anyOf (b ∷ bs) ≡ false → AllFalse (b ∷ bs) = by-pick (λ r. r ≡ false → AllFalse (b ∷ bs)) (λ _ x. absurd (true≢false x)) (λ h x. (h, none-of bs x)) in

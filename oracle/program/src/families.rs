@@ -4,6 +4,7 @@
 mod edges;
 mod forged;
 mod grids;
+mod runs;
 mod sessions;
 mod states;
 mod strings;
@@ -36,6 +37,7 @@ pub fn all() -> Vec<Box<dyn Family>> {
         Box::new(grids::sentences()),
         Box::new(strings::Strings::of_tokens()),
         Box::new(edges::Edges::default()),
+        Box::new(runs::Runs::default()),
     ]
 }
 

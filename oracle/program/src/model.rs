@@ -8,6 +8,10 @@ use crate::words::*;
 use std::ops::Range;
 
 pub trait Rules {
+    /// "n is bytes 4 and 5, little-endian."
+    fn ubx_length(&self, byte_4: u8, byte_5: u8) -> usize {
+        usize::from(byte_4) + 256 * usize::from(byte_5)
+    }
     /// "n > MAX: drain 2, repeat, no answer."
     fn is_over(&self, n: usize, max: usize) -> bool {
         n > max
@@ -75,6 +79,10 @@ pub trait Rules {
     /// "An answer's position is `used` at its sync byte."
     fn position(&self, used_at_sync: u64, _gone: usize) -> u64 {
         used_at_sync
+    }
+    /// "drains up to the first byte that is a sync byte of the mode" (opening)
+    fn opened_at(&self, first: usize) -> usize {
+        first
     }
     /// "If the window has none, nothing is drained." (opening)
     fn opened_without_sync(&self, _w: usize) -> usize {
@@ -175,8 +183,10 @@ impl Framer for Model {
         state[OPEN] = 1;
         state[CHUNK_LENGTH] = lent.chunk_length;
         let window = window(state, lent);
-        let first = window.sync(state[MODE], 0);
-        let drained = first.unwrap_or(self.rules.opened_without_sync(window.len()));
+        let drained = match window.sync(state[MODE], 0) {
+            Some(first) => self.rules.opened_at(first),
+            None => self.rules.opened_without_sync(window.len()),
+        };
         drain(state, drained);
         0
     }
@@ -260,7 +270,7 @@ impl Model {
         if w < 6 {
             return NOTHING_YET;
         }
-        let n = window.little_endian(4) as usize;
+        let n = self.rules.ubx_length(window.at(4), window.at(5));
         if self.rules.is_over(n, state[MAX] as usize) {
             return Sight::Pass { drained: self.rules.drained_over_max(n).min(w) };
         }

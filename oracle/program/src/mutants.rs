@@ -4,12 +4,12 @@ use crate::command::Options;
 use crate::compare::guarded;
 use crate::counts::grouped;
 use crate::families;
-use crate::model::{AsWritten, Model, Rules};
+use crate::model::{AsWritten, Model};
 use crate::run::{Run, Stop, Until};
 use crate::script::Difference;
 use crate::second::Second;
 use crate::server::Server;
-use crate::wrong;
+use crate::{vectors, wrong};
 
 /// A wrong version that is not caught in so many calls is missed.
 const PATIENCE: u64 = 20_000_000;
@@ -17,27 +17,31 @@ const PATIENCE: u64 = 20_000_000;
 const RIGHT: u64 = 4_000_000;
 
 pub fn command(options: &Options) -> Result<i32, String> {
-    let mut missed = 0;
-    let mut caught = 0;
+    let records = vectors::records()?;
+    let mut tally = Tally::default();
+    let mut unseen = 0;
     for (what, rules) in wrong::versions() {
-        let found = difference(model(rules), 0, options.seed, PATIENCE);
-        tell(what, found, &mut caught, &mut missed);
+        let mut model = Model { rules };
+        let vectors = vectors::differing(&records, &mut model);
+        unseen += u32::from(vectors == 0);
+        let found = difference(Box::new(Server::new(model)), 0, options.seed, PATIENCE);
+        tally.tell(what, found, &format!("; {vectors} vectors differ"));
     }
     for (what, how) in wrong::SPOILS.iter().zip(1..) {
         let found = difference(options.library(false), how, options.seed, PATIENCE);
-        tell(what, found, &mut caught, &mut missed);
+        tally.tell(what, found, "");
     }
-    let right = difference(model(Box::new(AsWritten)), 0, options.seed, RIGHT);
+    let mut model = Model { rules: Box::new(AsWritten) };
+    let vectors = vectors::differing(&records, &mut model);
+    let right = difference(Box::new(Server::new(model)), 0, options.seed, RIGHT);
     match &right {
-        None => say!("the right version: {} calls, 0 differences\n", grouped(RIGHT)),
-        Some(found) => say!("THE RIGHT VERSION DIFFERS\n{}\n", found.script),
+        None => say!("the right version: {} calls, 0 differences", grouped(RIGHT)),
+        Some(found) => say!("THE RIGHT VERSION DIFFERS\n{}", found.script),
     }
-    say!("{caught} wrong versions caught, {missed} missed\n");
-    Ok(i32::from(missed > 0 || right.is_some()))
-}
-
-fn model(rules: Box<dyn Rules>) -> Box<dyn Second> {
-    Box::new(Server::new(Model { rules }))
+    say!("; {vectors} of {} vectors differ\n", records.len());
+    say!("{} wrong versions caught, {} missed\n", tally.caught, tally.missed);
+    let failed = tally.missed > 0 || unseen > 0 || right.is_some() || vectors > 0;
+    Ok(i32::from(failed))
 }
 
 /// The first difference of a second side within so many calls.
@@ -53,15 +57,23 @@ fn difference(second: Box<dyn Second>, spoil: u64, seed: u64, most: u64) -> Opti
     }
 }
 
-fn tell(what: &str, found: Option<Difference>, caught: &mut u32, missed: &mut u32) {
-    match found {
-        Some(Difference { calls, place, .. }) => {
-            *caught += 1;
-            say!("caught  {what}: {place}, after {} calls\n", grouped(calls));
-        }
-        None => {
-            *missed += 1;
-            say!("MISSED  {what}\n");
+#[derive(Default)]
+struct Tally {
+    caught: u32,
+    missed: u32,
+}
+
+impl Tally {
+    fn tell(&mut self, what: &str, found: Option<Difference>, more: &str) {
+        match found {
+            Some(Difference { calls, place, .. }) => {
+                self.caught += 1;
+                say!("caught  {what}: {place}, after {} calls{more}\n", grouped(calls));
+            }
+            None => {
+                self.missed += 1;
+                say!("MISSED  {what}{more}\n");
+            }
         }
     }
 }

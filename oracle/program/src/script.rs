@@ -251,7 +251,8 @@ pub fn reply_text(call: Call, reply: &[u8], carry: usize) -> String {
     let padded = carry.next_multiple_of(8).min(bytes.len());
     let mut text = format!("out {}\nstate {}\n", words(1, outs), words(1 + outs, STATE_WORDS));
     let _ = writeln!(text, "carry {}", hex(&bytes[..carry.min(padded)]));
-    if call == Call::Step && bytes.len() > padded {
+    let is_frame = reply.len() >= 64 && (UBX_FRAME..=SENTENCE).contains(&server::word_of(reply, 1));
+    if call == Call::Step && is_frame && bytes.len() > padded {
         let body = server::word_of(reply, 7) as usize;
         let _ = writeln!(text, "body {}", hex(&bytes[padded..(padded + body).min(bytes.len())]));
     }

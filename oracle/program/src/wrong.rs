@@ -47,6 +47,14 @@ wrong_versions! {
     CopiesJustM: "copies just m where more fits behind the live bytes" {
         fn copied_behind(&self, m: usize, _room: usize, _rest: usize) -> usize { m }
     }
+    BigEndian: "reads n big-endian" {
+        fn ubx_length(&self, byte_4: u8, byte_5: u8) -> usize {
+            usize::from(byte_5) + 256 * usize::from(byte_4)
+        }
+    }
+    OneLengthByte: "reads the first length byte only" {
+        fn ubx_length(&self, byte_4: u8, _byte_5: u8) -> usize { usize::from(byte_4) }
+    }
     PassesWholeOverMax: "passes a frame over MAX as a whole" {
         fn drained_over_max(&self, n: usize) -> usize { n + 8 }
     }
@@ -94,6 +102,9 @@ wrong_versions! {
     }
     OpensByDraining: "drains all on opening without a sync byte" {
         fn opened_without_sync(&self, w: usize) -> usize { w }
+    }
+    LosesFirstByte: "uses up the sync byte on opening" {
+        fn opened_at(&self, first: usize) -> usize { first + 1 }
     }
     KeepsNoise: "keeps a window without a sync byte" {
         fn stepped_without_sync(&self, _w: usize) -> usize { 0 }

@@ -44,6 +44,12 @@ fn case(run: &mut Run, random: &mut Random) -> Result<(), Stop> {
             _ => forge(random, &mut state),
         }
     }
+    if random.once_in(32) {
+        chunk_length = random.near(LIMIT as usize, 1, 20_000);
+    }
+    if random.once_in(32) {
+        carry_length = random.near(LIMIT as usize, 1, 20_000);
+    }
     keep_to_limits(random, &mut state);
     let carry = any_bytes(random, carry_length);
     let chunk = any_bytes(random, chunk_length);

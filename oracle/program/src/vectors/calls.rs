@@ -1,9 +1,9 @@
-//! calls.bin: openings, steps and closings that are not refused. 01's bench set and the RTCM edge
-//! come first, then what the families of the comparison meet, a few of each situation.
+//! calls.bin: openings, steps and closings that are not refused. 01's bench set and the edges of RTCM
+//! frames, sentences and payloads come first, then what the families of the comparison meet, one of
+//! each situation.
 
-use super::List;
-use crate::bytes::{put_rtcm_head, Setting, T, U};
-use crate::counts::{place_kind, Counts};
+use crate::bytes::{put_rtcm_head, put_ubx, put_ubx_head, Setting, T, U};
+use crate::counts::place_kind;
 use crate::families;
 use crate::random::Random;
 use crate::run::{Record, Run, Stop, Until};
@@ -17,74 +17,67 @@ use std::rc::Rc;
 /// The families are watched for so many calls.
 const WATCHED: u64 = 3_000_000;
 
-/// The records so far, and how many of each situation.
+/// The records so far, and how many of each situation and of each size.
 #[derive(Default)]
 struct Chosen {
-    bytes: Vec<u8>,
-    records: usize,
-    longest: usize,
-    counts: Counts,
+    records: Vec<Record>,
     met: HashMap<Vec<i64>, usize>,
     of_size: [usize; 4],
 }
 
 /// Carry and chunk of at most so many bytes: how many records of a situation, and how many in all.
 const SIZES: [(usize, usize, usize); 4] =
-    [(24, 1, usize::MAX), (130, 1, 200), (270, 1, 24), (1100, 1, 0)];
+    [(20, 1, usize::MAX), (130, 1, 80), (270, 1, 8), (1100, 1, 0)];
 
-pub fn list() -> Result<List, String> {
+/// The records of the list.
+pub fn records() -> Result<Vec<Record>, String> {
     let chosen = Rc::new(RefCell::new(Chosen::default()));
-    let watched = Rc::clone(&chosen);
-    let mut run = Run::new(Box::new(Server::new(RustSide)), Until { seconds: None, calls: None });
-    run.tells = false;
-    run.watch = Some(Box::new(move |record| watched.borrow_mut().put(&record)));
+    let mut run = watched(&chosen, None, Chosen::take);
     bench_set(&mut run);
     rtcm_edge(&mut run);
-    let watched = Rc::clone(&chosen);
-    let until = Until { seconds: None, calls: Some(WATCHED) };
-    let mut run = Run::new(Box::new(Server::new(RustSide)), until);
-    run.tells = false;
-    run.watch = Some(Box::new(move |record| watched.borrow_mut().consider(&record)));
-    if let Stop::Difference(_) = families::go_round(&mut families::all(), &mut run, 1) {
-        return Err("the Rust differs from itself".to_string());
+    sentence_edges(&mut run);
+    ubx_edges(&mut run);
+    let mut run = watched(&chosen, Some(WATCHED), Chosen::consider);
+    match families::go_round(&mut families::all(), &mut run, 1) {
+        Stop::Difference(_) => Err("the Rust differs from itself".to_string()),
+        Stop::Enough => Ok(chosen.take().records),
     }
-    let chosen = chosen.take();
-    Ok(List {
-        bytes: chosen.bytes,
-        records: chosen.records,
-        longest: chosen.longest,
-        about: chosen.counts.to_string(),
-    })
+}
+
+/// A run of the Rust against itself, each call of which is shown to `look`.
+fn watched(chosen: &Rc<RefCell<Chosen>>, calls: Option<u64>, look: fn(&mut Chosen, Record)) -> Run {
+    let until = Until { seconds: None, calls };
+    let mut run = Run::new(Box::new(Server::new(RustSide)), until);
+    let chosen = Rc::clone(chosen);
+    run.tells = false;
+    run.watch = Some(Box::new(move |record| look(&mut chosen.borrow_mut(), record)));
+    run
 }
 
 impl Chosen {
-    /// Puts a record that is not refused and whose situation was met seldom.
-    fn consider(&mut self, record: &Record) {
+    /// Takes a record whose situation was met seldom.
+    fn consider(&mut self, record: Record) {
         let longest = record.carry_before.len().max(record.chunk.len());
         let Some(size) = SIZES.iter().position(|(most, ..)| longest <= *most) else { return };
         let (_, of_each, in_all) = SIZES[size];
-        if is_for_the_other_list(record) || self.of_size[size] >= in_all {
+        if is_for_the_other_list(&record) || self.of_size[size] >= in_all {
             return;
         }
-        let mut key = situation(record);
+        let mut key = situation(&record);
         key.push(size as i64);
         let met = self.met.entry(key).or_default();
         if *met < of_each {
             *met += 1;
             self.of_size[size] += 1;
-            self.put(record);
+            self.records.push(record);
         }
     }
 
-    fn put(&mut self, record: &Record) {
-        if is_for_the_other_list(record) {
-            return;
+    /// Takes every record of this list.
+    fn take(&mut self, record: Record) {
+        if !is_for_the_other_list(&record) {
+            self.records.push(record);
         }
-        let from = self.bytes.len();
-        put_record(&mut self.bytes, record);
-        self.records += 1;
-        self.longest = self.longest.max(self.bytes.len() - from);
-        self.counts.note(record.call, &record.before, &record.after, &record.out);
     }
 }
 
@@ -94,9 +87,9 @@ fn is_for_the_other_list(record: &Record) -> bool {
         || record.call.refusal(&record.out) != 0
 }
 
-/// The record, behind its length: operation, whether the carry changes, nine state words before, six
+/// Puts a record behind its length: operation, whether the carry changes, nine state words before, six
 /// after, seven out words, two lengths; then the carry, the chunk, and the carry after if it changes.
-fn put_record(to: &mut Vec<u8>, record: &Record) {
+pub fn put(to: &mut Vec<u8>, record: &Record) {
     let changes = record.carry_before != record.carry_after;
     let after = if changes { &record.carry_after[..] } else { &[] };
     let length = 64 + record.carry_before.len() + record.chunk.len() + after.len();
@@ -234,4 +227,36 @@ fn rtcm_edge(run: &mut Run) {
         run.call(Call::Step);
         run.call(Call::Close);
     }
+}
+
+/// Sentences around 8 and 82 bytes, whole in the chunk, on both sides, and without an end.
+fn sentence_edges(run: &mut Run) {
+    for length in [3, 7, 8, 9, 81, 82, 83, 84, 100] {
+        let mut sentence = vec![DOLLAR];
+        sentence.resize(length, b'A');
+        session(run, Setting { mode: 3, max: 16, c: 4 }, &[&sentence]);
+        sentence[length - 2..].copy_from_slice(&[0x0D, 0x0A]);
+        session(run, Setting { mode: 3, max: 16, c: 4 }, &[&sentence]);
+        let (first, second) = sentence.split_at(length - 1);
+        session(run, Setting { mode: 3, max: 16, c: length }, &[first, second]);
+        session(run, Setting { mode: 3, max: 16, c: length - 1 }, &[first, second]);
+    }
+}
+
+/// Payloads of one and of two length bytes, at MAX and past it, and the largest size that has no room.
+fn ubx_edges(run: &mut Run) {
+    for n in [255, 256, 257] {
+        let mut payload = vec![0; n];
+        Random::new(n as u64).fill(&mut payload);
+        let mut frame = Vec::new();
+        put_ubx(&mut frame, 1, 2, &payload, 0, 0);
+        for max in [255, 256] {
+            session(run, Setting { mode: 1, max, c: 4 }, &[&frame]);
+        }
+    }
+    let mut head = Vec::new();
+    put_ubx_head(&mut head, 1, 2, 65_535);
+    session(run, Setting { mode: 1, max: 65_534, c: 4 }, &[&head]);
+    session(run, Setting { mode: 1, max: 65_535, c: 5 }, &[&head]);
+    session(run, Setting { mode: 1, max: 65_535, c: 6 }, &[&head]);
 }
