@@ -43,7 +43,7 @@ drained-sum s i o p =
     (λ t. let h : i < width s = ltb-true i (width s) t in omega arith)
     (λ _. refl)
 
-kept-sum : (s : State) (carry chunk : List ℕ) (o : StepOut) → Sane s carry chunk → Keeps s carry chunk o
+pub kept-sum : (s : State) (carry chunk : List ℕ) (o : StepOut) → Sane s carry chunk → Keeps s carry chunk o
     → o .result .state .used + width (o .result .state) ≡ s .used + width s
 kept-sum s carry chunk o ok k =
     let len : width (o .result .state) ≡ width s - k .gone =

@@ -18,7 +18,7 @@ use Rattle.look.specs.Passed.{whole, Says, Moves}
 
 -- ---- a look
 
-abbrev In : ℕ → Look → Type 0
+abbrev pub In : ℕ → Look → Type 0
 In w (need k) = k ≤ w
 In w (pass y) = (0 < far y) × (far y ≤ w)
 In w (claim kind) = (0 < back kind) × (back kind ≤ w) × (2 ≤ whole kind)
@@ -39,7 +39,7 @@ end-in : (mode : Mode) (W : List ℕ) (f : Found) → 8 ≤ length W → In (len
 end-in mode W (At i) h = omega arith
 end-in mode W Nothing h = by-pick (In (length W)) (λ _. omega arith) (λ _. by-pick (In (length W)) (λ _. omega arith) (λ _. omega arith))
 
-look-in : (mode : Mode) (max : ℕ) (W : List ℕ) → In (length W) (look mode max W)
+pub look-in : (mode : Mode) (max : ℕ) (W : List ℕ) → In (length W) (look mode max W)
 unfolding look lookNmea
 look-in mode max [] = omega arith
 look-in mode max (b ∷ bs) =
@@ -74,7 +74,7 @@ lacks-in : (cap u w drain size : ℕ) (over : Bool) → (0 < drain) × (drain �
 lacks-in cap u w drain size true h = h
 lacks-in cap u w drain size false h = omega arith
 
-settled-in : (cap u : ℕ) (W : List ℕ) (l : Look) → In (length W) l → Moves cap u (length W) (settled cap u W l)
+pub settled-in : (cap u : ℕ) (W : List ℕ) (l : Look) → In (length W) l → Moves cap u (length W) (settled cap u W l)
 settled-in cap u W (need k) h = h
 settled-in cap u W (pass y) h = h
 settled-in cap u W (claim kind) h =

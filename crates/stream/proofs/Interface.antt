@@ -1,0 +1,83 @@
+-- The look says UBX frame exactly where the interface description's frame stands, and wrong sum exactly where all but its checksum
+-- does, with the true pair: in every mode, in the scan and in a step.
+use mathlib.Core.Path.{_≡_}
+use mathlib.Core.Logic.{_↔_}
+use mathlib.Core.Bool.{Bool, true, false}
+use mathlib.Core.List.{List}
+use Prim.Native.Nat.{ℕ, _+_, _≤_}
+use lib.ListN.{length, take, drop}
+use lib.Dec.{ltb}
+use borrow.Author.Tests.{leb-true, le-leb}
+use Rattle.window.specs.declared.Mode.{Mode}
+use Rattle.look.specs.declared.Kind.{Kind, the-variants.{Ubx}}
+use Rattle.look.specs.declared.Tale.the-variants.{WrongSum}
+use Rattle.look.specs.declared.Verdict.the-variants.{Tell, Hand}
+use Rattle.look.specs.declared.Sight.the-variants.{Say}
+use Rattle.look.specs.Rules.{skip, size}
+use Rattle.look.specs.Moves.{canHand, stepMove}
+use Rattle.look.specs.Passed.{whole}
+use Rattle.look.proofs.Rules.{hand-whole}
+use Rattle.stream.specs.Scan.{isWhole, scanMove}
+use Rattle.stream.specs.Interface.{GoodFrame, WrongFrame, Bytes}
+use Rattle.stream.proofs.Framed.{payload-at, whole-in}
+use Rattle.stream.proofs.Said.{frame-said, wrong-said, said-frame, said-wrong}
+
+module _ (mode : Mode) (max : ℕ) (W : List ℕ) where
+  -- ---- the scan
+
+  whole-fits : (kind : Kind) → isWhole W kind ≡ true → whole kind ≤ length W
+  whole-fits kind t = leb-true (whole kind) (length W) t
+
+  good-fits : (class id : ℕ) (payload : List ℕ) → GoodFrame max W class id payload → isWhole W (Ubx class id (length payload)) ≡ true
+  good-fits class id payload g = le-leb _ _ (whole-in class id payload _ _ (g .rest) W (g .stands))
+
+  wrong-fits : (expect got : ℕ) (w : WrongFrame max W expect got) → isWhole W (Ubx (w .class) (w .id) (length (w .payload))) ≡ true
+  wrong-fits expect got w = le-leb _ _ (whole-in (w .class) (w .id) (w .payload) (w .a) (w .b) (w .rest) W (w .stands))
+
+  pub good-hands : (class id : ℕ) (payload : List ℕ) → GoodFrame max W class id payload → scanMove mode max W ≡ Say (Hand (Ubx class id (length payload)))
+  unfolding scanMove
+  good-hands class id payload g = frame-said mode max W (isWhole W) false class id payload g (good-fits class id payload g)
+
+  pub scan-says-frame : Bytes W → (class id : ℕ) (payload : List ℕ)
+      → GoodFrame max W class id payload ↔ ((scanMove mode max W ≡ Say (Hand (Ubx class id (length payload)))) × (take (length payload) (drop 6 W) ≡ payload))
+  unfolding scanMove
+  scan-says-frame bytes class id payload = (
+    λ g. (good-hands class id payload g, payload-at class id payload _ _ (g .rest) W (g .stands)),
+    λ h. said-frame mode max W (isWhole W) false bytes whole-fits class id payload (h .0) (h .1) .0,
+  )
+
+  pub scan-says-wrong : Bytes W → (expect got : ℕ) → WrongFrame max W expect got ↔ (scanMove mode max W ≡ Say (Tell (WrongSum expect got)))
+  unfolding scanMove
+  scan-says-wrong bytes expect got = (
+    λ w. wrong-said mode max W (isWhole W) false expect got w (wrong-fits expect got w),
+    λ h. said-wrong mode max W (isWhole W) false bytes whole-fits expect got h .0,
+  )
+
+  -- ---- a step, where the carry has cap bytes and u of the window's lie in it: the hand-out test passes too
+
+  module _ (cap u : ℕ) where
+    abbrev canHandOut : Kind → Bool
+    canHandOut kind = canHand cap u (length W) (skip kind) (size kind)
+
+    hand-fits : (kind : Kind) → canHandOut kind ≡ true → whole kind ≤ length W
+    hand-fits kind t = hand-whole cap u (length W) (skip kind) (size kind) t
+
+    pub step-says-frame : Bytes W → (class id : ℕ) (payload : List ℕ)
+        → (GoodFrame max W class id payload × (canHand cap u (length W) 6 (length payload + 2) ≡ true))
+        ↔ ((stepMove mode max cap u W ≡ Say (Hand (Ubx class id (length payload)))) × (take (length payload) (drop 6 W) ≡ payload))
+    unfolding stepMove
+    step-says-frame bytes class id payload = (
+      λ g. (
+        frame-said mode max W canHandOut (ltb cap (length W)) class id payload (g .0) (g .1),
+        payload-at class id payload _ _ (g .0 .rest) W (g .0 .stands),
+      ),
+      λ h. said-frame mode max W canHandOut (ltb cap (length W)) bytes hand-fits class id payload (h .0) (h .1),
+    )
+
+    pub step-says-wrong : Bytes W → (expect got : ℕ)
+        → ((w : WrongFrame max W expect got) × (canHand cap u (length W) 6 (length (w .payload) + 2) ≡ true)) ↔ (stepMove mode max cap u W ≡ Say (Tell (WrongSum expect got)))
+    unfolding stepMove
+    step-says-wrong bytes expect got = (
+      λ w. wrong-said mode max W canHandOut (ltb cap (length W)) expect got (w .0) (w .1),
+      λ h. said-wrong mode max W canHandOut (ltb cap (length W)) bytes hand-fits expect got h,
+    )

@@ -1,0 +1,88 @@
+-- None but a good frame is handed out as a UBX frame, and a wrong sum is one, with the true pair.
+use mathlib.Core.Path.{_≡_, sym, ap, subst, _∙_}
+use mathlib.Core.List.{List, List·Memᴰ as Among, List·Memᴰ·not-nil as among-nil, List·Memᴰ·eq-of-singleton as among-one}
+use Prim.Native.Nat.{ℕ, _+_, _≤_}
+use native.Mathlib.Nat.{zero-add}
+use native.Mathlib.Omega.{arith}
+use lib.ListN.{length, take, drop, length-drop}
+use lib.Seq.{getD-drop, length-take-le}
+use Rattle.window.specs.declared.Mode.{Mode}
+use Rattle.look.specs.declared.Kind.{Kind, the-variants.{Ubx, Rtcm, Sentence}}
+use Rattle.look.specs.declared.Tale.{Tale, the-variants.{WrongSum, NoRoom}}
+use Rattle.look.specs.declared.Verdict.the-variants.{Wait, Tell, Hand}
+use Rattle.look.specs.declared.Sight.{Sight, the-variants.{Pass, Say}}
+use Rattle.look.specs.Passed.{whole}
+use Rattle.stream.specs.Scan.{ubxFrame, wrongSum, Event, taleSaid, frameSaid, body, scanMove, HasScan}
+use Rattle.stream.specs.Interface.{GoodFrame, WrongFrame, Bytes}
+use Rattle.stream.specs.Frames.{bodyOf, OnlyGoodFrames, OnlyWrongSums}
+use Rattle.stream.proofs.Walks.{says, said-at}
+use Rattle.stream.proofs.Modes.{steady-scan}
+use Rattle.stream.proofs.Scans.{scan-walks}
+use Rattle.stream.proofs.Framed.{body-at}
+use Rattle.stream.proofs.Interface.{scan-says-frame, scan-says-wrong}
+
+-- an answer with a body is a frame's, and one with a pair a wrong sum's
+frame-of : (p : ℕ) (W : List ℕ) (m : Sight) (e : Event) → Among e (says p W m) → (class id : ℕ) (b : List ℕ) → e .said ≡ ubxFrame class id b
+    → (n : ℕ) × (m ≡ Say (Hand (Ubx class id n))) × (b ≡ body (Ubx class id n) W)
+frame-of p W (Pass y) e a class id b s = absurd (among-nil a)
+frame-of p W (Say (Wait k)) e a class id b s = absurd (among-nil a)
+frame-of p W (Say (Tell t)) e a class id b s = absurd (no t (sym (ap (λ (x : Event). x .said) (among-one a)) ∙ s))
+  where
+    no : (t : Tale) → taleSaid t ≡ ubxFrame class id b → ⊥
+    no (WrongSum expect got) h = let z : _≡_ {A = ℕ} 0 1 = cc in omega arith
+    no (NoRoom drain size) h = let z : _≡_ {A = ℕ} 0 1 = cc in omega arith
+frame-of p W (Say (Hand kind)) e a class id b s = go kind (sym (ap (λ (x : Event). x .said) (among-one a)) ∙ s)
+  where
+    go : (kind : Kind) → frameSaid kind (body kind W) ≡ ubxFrame class id b → (n : ℕ) × (Say (Hand kind) ≡ Say (Hand (Ubx class id n))) × (b ≡ body (Ubx class id n) W)
+    go (Ubx c i n) h =
+        let ec : c ≡ class = cc in
+        let ei : i ≡ id = cc in
+        let eb : b ≡ take (n + 2) (drop 6 W) = cc in
+        (n, rw (ec, ei), eb)
+    go (Rtcm n) h = let z : _≡_ {A = ℕ} 0 1 = cc in absurd (omega arith)
+    go (Sentence i) h = let z : _≡_ {A = ℕ} 0 1 = cc in absurd (omega arith)
+
+wrong-of : (p : ℕ) (W : List ℕ) (m : Sight) (e : Event) → Among e (says p W m) → (expect got : ℕ) → e .said ≡ wrongSum expect got → m ≡ Say (Tell (WrongSum expect got))
+wrong-of p W (Pass y) e a expect got s = absurd (among-nil a)
+wrong-of p W (Say (Wait k)) e a expect got s = absurd (among-nil a)
+wrong-of p W (Say (Tell t)) e a expect got s = go t (sym (ap (λ (x : Event). x .said) (among-one a)) ∙ s)
+  where
+    go : (t : Tale) → taleSaid t ≡ wrongSum expect got → Say (Tell t) ≡ Say (Tell (WrongSum expect got))
+    go (WrongSum x y) h = let ex : x ≡ expect = cc in let ey : y ≡ got = cc in rw (ex, ey)
+    go (NoRoom drain size) h = let z : _≡_ {A = ℕ} 0 1 = cc in absurd (omega arith)
+wrong-of p W (Say (Hand kind)) e a expect got s = absurd (no kind (sym (ap (λ (x : Event). x .said) (among-one a)) ∙ s))
+  where
+    no : (kind : Kind) → frameSaid kind (body kind W) ≡ wrongSum expect got → ⊥
+    no (Ubx class id n) h = let z : _≡_ {A = ℕ} 0 1 = cc in omega arith
+    no (Rtcm n) h = let z : _≡_ {A = ℕ} 0 1 = cc in omega arith
+    no (Sentence i) h = let z : _≡_ {A = ℕ} 0 1 = cc in omega arith
+
+bytes-on : (W : List ℕ) (k : ℕ) → Bytes W → Bytes (drop k W)
+bytes-on W k b i = rw getD-drop (b (k + i))
+
+-- where a UBX frame is handed out, its body is the payload and the checksum of a good frame
+good-at : (mode : Mode) (max : ℕ) → HasScan mode → (W : List ℕ) → Bytes W → (class id n : ℕ) → scanMove mode max W ≡ Say (Hand (Ubx class id n))
+    → (payload : List ℕ) × GoodFrame max W class id payload × (body (Ubx class id n) W ≡ bodyOf class id payload)
+good-at mode max has W bytes class id n h =
+    let within : whole (Ubx class id n) ≤ length W = rw h at (steady-scan mode max has .goes W (rw h) .1) in
+    let payload = take n (drop 6 W) in
+    let len : length payload ≡ n = length-take-le n (drop 6 W) (rw length-drop (omega arith)) in
+    let g : GoodFrame max W class id payload = scan-says-frame mode max W bytes class id payload .1 (rw len h, rw len) in
+    (payload, g, ap (λ (i : ℕ). take (i + 2) (drop 6 W)) (sym len) ∙ body-at class id payload _ _ (g .rest) W (g .stands))
+
+pub only-good-frames : OnlyGoodFrames
+only-good-frames mode max has stream bytes e a class id b s =
+    let (k, at, m) = said-at (scanMove mode max) (scan-walks mode max has stream .0) e a in
+    let p : e .at ≡ k = at ∙ zero-add k in
+    let W = drop k stream in
+    let f = frame-of (0 + k) W (scanMove mode max W) e m class id b s in
+    let g = good-at mode max has W (bytes-on stream k bytes) class id (f .0) (f .1) in
+    (g .0, subst (λ (i : ℕ). GoodFrame max (drop i stream) class id (g .0)) (sym p) (g .1), f .2 ∙ g .2)
+
+pub only-wrong-sums : OnlyWrongSums
+only-wrong-sums mode max has stream bytes e a expect got s =
+    let (k, at, m) = said-at (scanMove mode max) (scan-walks mode max has stream .0) e a in
+    let p : e .at ≡ k = at ∙ zero-add k in
+    let W = drop k stream in
+    let w = scan-says-wrong mode max W (bytes-on stream k bytes) expect got .1 (wrong-of (0 + k) W (scanMove mode max W) e m expect got s) in
+    subst (λ (i : ℕ). WrongFrame max (drop i stream) expect got) (sym p) w

@@ -1,0 +1,58 @@
+-- The interface description's frames in a scan: no good frame is lost, and none but a good one is handed out.
+use mathlib.Core.Path.{_≡_}
+use Prim.Native.Nat.{ℕ, _+_, _≤_, _<_}
+use mathlib.Core.List.{List, [], _∷_, _++_, List·Memᴰ as Among}
+use lib.ListN.{length, getD, drop}
+use Rattle.window.specs.declared.Mode.{Mode, the-variants.{One}}
+use Rattle.stream.specs.Scan.{Said, ubxFrame, rtcmFrame, sentence, wrongSum, noRoom, Event, scan, HasScan}
+use Rattle.stream.specs.Interface.{checksum, summed, frame, GoodFrame, WrongFrame, Bytes}
+
+-- how many bytes of the stream a frame that is handed out takes up, from its position on
+abbrev pub span : Said → ℕ
+span (ubxFrame class id body) = 6 + length body
+span (rtcmFrame body) = length body
+span (sentence body) = length body
+span (wrongSum expect got) = 0
+span (noRoom size) = 0
+
+-- the answer that hands out a frame at p; the body is payload and two check bytes
+abbrev pub bodyOf : ℕ → ℕ → List ℕ → List ℕ
+bodyOf class id payload = let ck = checksum (summed class id payload) in payload ++ ck .ckA ∷ ck .ckB ∷ []
+
+abbrev pub handOut : ℕ → ℕ → ℕ → List ℕ → Event
+handOut p class id payload = record { at = p; said = ubxFrame class id (bodyOf class id payload) }
+
+-- what becomes of a frame at p: it is handed out there, or its first byte lies inside a frame that was handed out before it, or
+-- behind the start of the unfinished tail
+pub data Kept (answers : List Event) (tailAt p : ℕ) (e : Event) : Type 0 where
+  handed : Among e answers → Kept answers tailAt p e
+  inside : (f : Event) → Among f answers → f .at < p → p < f .at + span (f .said) → Kept answers tailAt p e
+  unfinished : tailAt ≤ p → Kept answers tailAt p e
+
+-- wherever a whole good UBX frame with n ≤ MAX stands in the stream, in modes one and two
+abbrev pub NoGoodFrameIsLost : Type 0
+NoGoodFrameIsLost =
+    (mode : Mode) (max : ℕ) → HasScan mode → (stream : List ℕ) (p class id : ℕ) (payload : List ℕ) → GoodFrame max (drop p stream) class id payload
+    → Kept (scan mode max stream .answers) (scan mode max stream .tailAt) p (handOut p class id payload)
+
+-- in mode one, any one byte before a good frame, and any bytes without B5, still give that frame at its place
+abbrev pub OneStrayByte : Type 0
+OneStrayByte =
+    (max stray class id : ℕ) (payload rest : List ℕ) → length payload ≤ max
+    → Among (handOut 1 class id payload) (scan One max (stray ∷ (frame class id payload ++ rest)) .answers)
+
+abbrev pub AnyBytesWithoutB5 : Type 0
+AnyBytesWithoutB5 =
+    (max : ℕ) (noise : List ℕ) → ((k : ℕ) → getD noise k 0 ≡ 0xB5 → ⊥) → (class id : ℕ) (payload rest : List ℕ) → length payload ≤ max
+    → Among (handOut (length noise) class id payload) (scan One max (noise ++ (frame class id payload ++ rest)) .answers)
+
+-- every UBX frame that is handed out is a good one that stands there, and every wrong sum is one that stands there, with the true pair
+abbrev pub OnlyGoodFrames : Type 0
+OnlyGoodFrames =
+    (mode : Mode) (max : ℕ) → HasScan mode → (stream : List ℕ) → Bytes stream → (e : Event) → Among e (scan mode max stream .answers) → (class id : ℕ) (body : List ℕ)
+    → e .said ≡ ubxFrame class id body → (payload : List ℕ) × GoodFrame max (drop (e .at) stream) class id payload × (body ≡ bodyOf class id payload)
+
+abbrev pub OnlyWrongSums : Type 0
+OnlyWrongSums =
+    (mode : Mode) (max : ℕ) → HasScan mode → (stream : List ℕ) → Bytes stream → (e : Event) → Among e (scan mode max stream .answers) → (expect got : ℕ)
+    → e .said ≡ wrongSum expect got → WrongFrame max (drop (e .at) stream) expect got
