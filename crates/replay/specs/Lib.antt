@@ -1,0 +1,3 @@
+-- What the contracts of the replay cite.
+pub mod Compare
+pub mod Made
