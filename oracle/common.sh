@@ -9,6 +9,7 @@ build=${ORACLE_BUILD:-$root/target/oracle}
 source=${UBLOX_SRC:-$root/../shared/docs/src}
 library=
 without_library=
+rust_only=
 program_words=
 
 # Takes the options that are the build's; the rest goes to the program, one word to a line.
@@ -18,11 +19,31 @@ take_options() {
         --source) [ $# -gt 1 ] || die "--source needs a folder"; source=$2; shift ;;
         --library) [ $# -gt 1 ] || die "--library needs a file"; library=$2; shift ;;
         --without-library) without_library=yes ;;
+        --rust-only) rust_only=yes ;;
         *) program_words="$program_words$1
 " ;;
         esac
         shift
     done
+}
+
+# The library: the one that was named, or the repository's own, made where it is missing.
+find_library() {
+    if [ -z "$library" ]; then
+        library=$root/target/staticlib/liborgnevis.a
+        [ -f "$library" ] || (cd "$root" && rt staticlib orgnevis)
+    fi
+    [ -f "$library" ] || die "there is no $library"
+}
+
+# The first digits of a file's SHA-256.
+digest() { sha256sum "$1" | cut -c 1-16; }
+
+# Which Rust and which library it is, for the report of a run.
+describe() {
+    crate=$source/src
+    echo "Rust     ublox 0.10.0, parser.rs $(digest "$crate/parser.rs"), buffer.rs $(digest "$crate/parser/buffer.rs"), checksum.rs $(digest "$crate/parser/checksum.rs")"
+    [ -n "$without_library" ] || echo "library  $(basename "$library"), $(wc -c <"$library") bytes, $(digest "$library")"
 }
 
 # Builds what is not built yet. What the build says is kept in build.log; what went wrong is shown.

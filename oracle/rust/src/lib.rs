@@ -1,15 +1,16 @@
 //! The crate root that the framing files of ublox 0.10.0 expect, and nothing of theirs: parser.rs,
 //! parser/buffer.rs, parser/checksum.rs, constants.rs and error.rs are put beside this file by
-//! oracle/build. `numbers` calls them with 01's numbers.
+//! oracle/build. `numbers` calls them with 01's numbers; oracle/speed leaves it out and calls them itself.
 #![allow(dead_code)]
 
 pub mod constants;
 mod error;
+#[cfg(feature = "numbers")]
 pub mod numbers;
 mod parser;
 
 pub use error::ParserError;
-pub use parser::{FixedLinearBuffer, UnderlyingBuffer};
+pub use parser::{AnyPacketRef, FixedLinearBuffer, Parser, UnderlyingBuffer};
 
 /// What stands in for `match_packet`'s result: class, id and payload.
 #[derive(Debug)]
