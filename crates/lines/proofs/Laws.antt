@@ -40,3 +40,9 @@ nothing out at = record {
   bytes = sym (rw (append-nil, add-zero) (take-append-drop at out));
   place = omega arith;
 }
+
+-- a text that leaves the buffer its length had room in it
+pub fits : {text out after : List ℕ} {at next : ℕ} → at ≤ length out → Puts text out at after next → length after ≡ length out → next ≤ length out
+fits {text} {out} {after} {at} h p same =
+    let e : length (put out at text) ≡ length out = rw (p .bytes) at same in
+    omega (arith, p .place, simp (length-append, length-take-le at out h, length-drop) at e)
