@@ -1,5 +1,5 @@
 -- A refused call hands the state back, and a state that was read and is written back leaves its words as they were.
-use mathlib.Core.Path.{_≡_, refl, ap, _∙_}
+use mathlib.Core.Path.{_≡_, refl, ap}
 use mathlib.Core.Bool.{Bool, true, false}
 use mathlib.Core.List.{List, [], _∷_}
 use Prim.Native.Nat.{ℕ, zero, suc, _≤_}
@@ -7,14 +7,14 @@ use native.Mathlib.Omega.{arith}
 use lib.ListN.{getD, set}
 use lib.Dec.{ltb, eqb}
 use borrow.Author.Tests.{ltb-false, eqb-true, eqb-false}
-use Rattle.window.specs.Pick.{pick}
 use Rattle.window.proofs.Pick.{by-pick}
-use Rattle.window.specs.declared.Mode.{Mode}
 use Rattle.framer.proofs.Granted.{none-of}
-use Rattle.orgnevis.specs.Words.{modeNo, openNo, withState, modeBy, noMode, noState, stateBy}
+use Rattle.framer.specs.declared.State.{State}
+use Rattle.orgnevis.specs.declared.Read.{Read, the-variants.{Is}}
+use Rattle.orgnevis.specs.Words.{modeNo, openNo, withState, modeBy, noMode, noState, stateBy, readState}
 
 -- storing what stands there
-set-same : (l : List ℕ) (i : ℕ) → set l i (getD l i 0) ≡ l
+pub set-same : (l : List ℕ) (i : ℕ) → set l i (getD l i 0) ≡ l
 set-same [] zero = refl
 set-same [] (suc i) = refl
 set-same (x ∷ l) zero = refl
@@ -38,9 +38,20 @@ open-back n h = go (eqb n 1) refl
     go true e = let k = eqb-true n 1 e in omega arith
     go false e = let k = eqb-false n 1 e in omega arith
 
-pub same-words : (words : List ℕ) → noState words ≡ false → withState (stateBy words) words ≡ words
-same-words w e =
-    let h = none-of (noMode (getD w 0 0) ∷ ltb 65535 (getD w 1 0) ∷ ltb 1 (getD w 6 0) ∷ []) e in
-    let s : (i : ℕ) → set w i (getD w i 0) ≡ w = set-same w in
-    rw (mode-back (getD w 0 0) (h .0), open-back (getD w 6 0) (ltb-false 1 (getD w 6 0) (h .1 .1 .0)))
-    (simp (s 0, s 1, s 2, s 3, s 4, s 5, s 6, s 7, s 8))
+-- words that a state was read from are one's, and it is what they say
+pub read-is : (w : List ℕ) (s : State) → readState w ≡ Is s → (noState w ≡ false) × (stateBy w ≡ s)
+unfolding readState
+read-is w s =
+    by-pick (λ r. r ≡ Is s → (noState w ≡ false) × (stateBy w ≡ s)) (λ _ e. let z : _≡_ {A = ℕ} 0 1 = cc in absurd (omega arith)) (λ n e. (n, cc))
+
+module _ (w : List ℕ) (e : noState w ≡ false) where
+  pub mode-word : modeNo (modeBy (getD w 0 0)) ≡ getD w 0 0
+  mode-word = mode-back (getD w 0 0) (none-of (noMode (getD w 0 0) ∷ ltb 65535 (getD w 1 0) ∷ ltb 1 (getD w 6 0) ∷ []) e .0)
+
+  pub open-word : openNo (eqb (getD w 6 0) 1) ≡ getD w 6 0
+  open-word = open-back (getD w 6 0) (ltb-false 1 (getD w 6 0) (none-of (noMode (getD w 0 0) ∷ ltb 65535 (getD w 1 0) ∷ ltb 1 (getD w 6 0) ∷ []) e .1 .1 .0))
+
+  pub same-words : withState (stateBy w) w ≡ w
+  same-words =
+      let s : (i : ℕ) → set w i (getD w i 0) ≡ w = set-same w in
+      rw (mode-word, open-word) (simp (s 0, s 1, s 2, s 3, s 4, s 5, s 6, s 7, s 8))

@@ -33,6 +33,16 @@ stateWords s = modeNo (s .mode) ∷ s .max ∷ s .cap ∷ s .live ∷ s .off ∷
 abbrev pub withState : State → List ℕ → List ℕ
 withState s words = sets words 0 (stateWords s)
 
+-- the words that an opening, a step and a close change
+abbrev pub openedWords : State → List ℕ → List ℕ
+openedWords s words = sets words 4 (s .off ∷ s .used ∷ 1 ∷ s .chunk ∷ s .part ∷ [])
+
+abbrev pub steppedWords : State → List ℕ → List ℕ
+steppedWords s words = sets (sets words 3 (s .live ∷ s .off ∷ s .used ∷ [])) 8 (s .part ∷ [])
+
+abbrev pub closedWords : ℕ → List ℕ → List ℕ
+closedWords kept words = sets words 3 (kept ∷ 0 ∷ 0 ∷ 0 ∷ 0 ∷ 0 ∷ [])
+
 -- a mode's number, and words that no state has: another mode, MAX over 65,535, open not 0 or 1
 abbrev pub modeBy : ℕ → Mode
 modeBy n = pick (eqb n 1) One (pick (eqb n 2) Two Three)

@@ -4,7 +4,7 @@ ghost use mathlib.Core.List.{_++_};
 ghost use lib.ListN.{length, drop};
 ghost use Rattle.framer.specs.Refusals.{leaveNo, refusalNo};
 ghost use Rattle.framer.specs.Answers.{sideNo};
-ghost use Rattle.orgnevis.specs.Words.{modeNo, openNo, modeBy, noMode, noState, stateBy, readState, withState, frameWords, plainWords, answerWords, reportWords};
+ghost use Rattle.orgnevis.specs.Words.{modeNo, openNo, modeBy, noMode, noState, stateBy, readState, withState, openedWords, steppedWords, closedWords, frameWords, plainWords, answerWords, reportWords};
 ghost use Rattle.orgnevis.specs.Calls.{starts, opens, steps, closes, views};
 use framer::Answer;
 use framer::Leave;
@@ -142,6 +142,39 @@ fn write_state(s: State, words: &mut [u64; 24])
     words[8] = s.part as u64;
 }
 
+// The words that an opening changes: 4 to 8.
+fn write_opened(next: State, words: &mut [u64; 24])
+    ensures { λ _. ⌜ now (words .exit) ≡ openedWords next (now (words .entry)) ⌝ }
+{
+    words[4] = next.off as u64;
+    words[5] = next.used as u64;
+    words[6] = 1;
+    words[7] = next.chunk as u64;
+    words[8] = next.part as u64;
+}
+
+// The words that a step changes: 3, 4, 5 and 8.
+fn write_stepped(s: State, words: &mut [u64; 24])
+    ensures { λ _. ⌜ now (words .exit) ≡ steppedWords s (now (words .entry)) ⌝ }
+{
+    words[3] = s.live as u64;
+    words[4] = s.off as u64;
+    words[5] = s.used as u64;
+    words[8] = s.part as u64;
+}
+
+// The words that a close changes: 3 to 8, with so many bytes kept.
+fn write_closed(kept: usize, words: &mut [u64; 24])
+    ensures { λ _. ⌜ now (words .exit) ≡ closedWords kept (now (words .entry)) ⌝ }
+{
+    words[3] = kept as u64;
+    words[4] = 0;
+    words[5] = 0;
+    words[6] = 0;
+    words[7] = 0;
+    words[8] = 0;
+}
+
 // An answer that hands out no place: its number, position and two values.
 fn write_plain(out: &mut [u64; 8], number: u64, at: u64, x: u64, y: u64)
     ensures { λ _. ⌜ now (out .exit) ≡ plainWords number at x y ⌝ }
@@ -242,9 +275,14 @@ pub extern "C" fn orgnevis_open(state: &mut [u64; 24], carry: &[u8], chunk: &[u8
         Read::Is(s) => {
             let opened = framer::open(s, carry, chunk);
             let next = opened.state;
-            write_state(next, state);
             let leave = opened.leave;
-            leave_no(leave)
+            match leave {
+                Leave::Denied(refusal) => refusal_no(refusal),
+                Leave::Granted => {
+                    write_opened(next, state);
+                    0
+                }
+            }
         }
     }
 }
@@ -267,7 +305,7 @@ pub extern "C" fn orgnevis_step(
         Read::Is(s) => {
             let stepped = framer::step(s, carry, chunk);
             let next = stepped.state;
-            write_state(next, state);
+            write_stepped(next, state);
             let answer = stepped.answer;
             write_answer(answer, out)
         }
@@ -291,17 +329,20 @@ pub extern "C" fn orgnevis_close(
         Read::NoState => write_report(out, 2, 0, 0, 0),
         Read::Is(s) => {
             let closed = framer::close(s, carry, chunk);
-            let next = closed.state;
-            write_state(next, state);
             let leave = closed.leave;
-            let number = leave_no(leave);
-            write_report(
-                out,
-                number,
-                word(closed.used),
-                word(closed.kept),
-                word(closed.lost),
-            )
+            match leave {
+                Leave::Denied(refusal) => write_report(out, refusal_no(refusal), 0, 0, 0),
+                Leave::Granted => {
+                    write_closed(closed.kept, state);
+                    write_report(
+                        out,
+                        0,
+                        word(closed.used),
+                        word(closed.kept),
+                        word(closed.lost),
+                    )
+                }
+            }
         }
     }
 }

@@ -1,8 +1,10 @@
 -- `orgnevis::orgnevis_open` meets its contract.
-use mathlib.Core.Path.{sym, _∙_}
+use mathlib.Core.Path.{sym, ap, _∙_}
+use Rattle.framer.specs.declared.Opened.{Opened}
 use Rattle.framer.specs.Operations.{opening}
 use Rattle.framer.proofs.Determined.{opens-is}
 use Rattle.orgnevis.specs.Calls.{opens}
+use Rattle.orgnevis.proofs.Kept.{open-keeps, open-refused, same, opened-words}
 use borrow.Author.Needs.{needs}
 use Rattle.orgnevis.proofs.orgnevis_open.Statement.{statement}
 use Rattle.orgnevis.proofs.orgnevis_open.Tie as tie
@@ -19,11 +21,17 @@ enum-known-read c = search needs
 open-requires : tie.Need-open-requires
 open-requires c κs = search needs
 
-write-state-requires : tie.Need-write-state-requires
-write-state-requires c κs = search needs
+enum-known-leave : tie.Need-enum-known-leave
+enum-known-leave c = search needs
 
-leave-no-requires : tie.Need-leave-no-requires
-leave-no-requires c κs = search needs
+refusal-no-requires : tie.Need-refusal-no-requires
+refusal-no-requires c κs = search needs
+
+enum-told-2 : tie.Need-enum-told-2
+enum-told-2 c = search needs
+
+write-opened-requires : tie.Need-write-opened-requires
+write-opened-requires c κs = search needs
 
 returns : tie.Need-returns
 unfolding opens
@@ -31,10 +39,22 @@ returns c = let e = sym (c .before .before .read-state .ensures) ∙ c .enum-tol
 
 returns-2 : tie.Need-returns-2
 unfolding opens
-returns-2 c = let x = c .before .before .before .before .before .before .before .before .before .before .before .before .args in
-    let e = sym (c .before .before .before .before .before .before .before .before .read-state .ensures) ∙ c .before .before .before .before .before .before .read .given .1 in
-    let r = opens-is (opening (c .before .before .before .before .before .before .read .given .0 .0) (x .carry .now) (x .chunk .now)) (c .before .before .before .before .«open» .result) (c .before .before .before .before .«open» .ensures) in
-    (c .leave-no .ensures ∙ rw (e, r), c .before .write-state .ensures ∙ rw (e, r))
+returns-2 c = let x = c .before .before .before .before .before .before .before .before .before .before .before .before .before .args in
+    let s = c .before .before .before .before .before .before .before .read .given .0 .0 in
+    let e = sym (c .before .before .before .before .before .before .before .before .before .read-state .ensures) ∙ c .before .before .before .before .before .before .before .read .given .1 in
+    let r = opens-is (opening s (x .carry .now) (x .chunk .now)) (c .before .before .before .before .before .«open» .result) (c .before .before .before .before .before .«open» .ensures) in
+    let d = sym (ap (λ (o : Opened). o .leave) r) ∙ c .before .before .leave .given .1 in
+    (c .refusal-no .ensures ∙ rw (e, d), rw (e, open-refused s (x .carry .now) (x .chunk .now) _ d) (sym (same (x .state .now) s e)))
+
+returns-3 : tie.Need-returns-3
+unfolding opens
+returns-3 c = let x = c .before .before .before .before .before .before .before .before .before .before .before .before .before .args in
+    let s = c .before .before .before .before .before .before .before .read .given .0 .0 in
+    let e = sym (c .before .before .before .before .before .before .before .before .before .read-state .ensures) ∙ c .before .before .before .before .before .before .before .read .given .1 in
+    let r = opens-is (opening s (x .carry .now) (x .chunk .now)) (c .before .before .before .before .before .«open» .result) (c .before .before .before .before .before .«open» .ensures) in
+    let g = sym (ap (λ (o : Opened). o .leave) r) ∙ c .before .before .enum-told2 .given .1 in
+    let k = open-keeps s (x .carry .now) (x .chunk .now) g in
+    (rw (e, g), c .write-opened .ensures ∙ rw (e, r) (sym (opened-words (x .state .now) s e (x .carry .now) (x .chunk .now) _ k)))
 
 pub orgnevis-open-spec : {M : Type 1} → statement M
 orgnevis-open-spec =
@@ -44,7 +64,10 @@ orgnevis-open-spec =
     enum-told
     enum-known-read
     open-requires
-    write-state-requires
-    leave-no-requires
+    enum-known-leave
+    refusal-no-requires
+    enum-told-2
+    write-opened-requires
     returns
-    returns-2)
+    returns-2
+    returns-3)

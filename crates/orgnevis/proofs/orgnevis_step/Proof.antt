@@ -3,6 +3,7 @@ use mathlib.Core.Path.{sym, _∙_}
 use Rattle.framer.specs.Step.{step}
 use Rattle.framer.proofs.Determined.{steps-is}
 use Rattle.orgnevis.specs.Calls.{steps}
+use Rattle.orgnevis.proofs.Kept.{step-stays, stepped-words}
 use borrow.Author.Needs.{needs}
 use Rattle.orgnevis.proofs.orgnevis_step.Statement.{statement}
 use Rattle.orgnevis.proofs.orgnevis_step.Tie as tie
@@ -22,8 +23,8 @@ enum-known-read c = search needs
 step-requires : tie.Need-step-requires
 step-requires c κs = search needs
 
-write-state-requires : tie.Need-write-state-requires
-write-state-requires c κs = search needs
+write-stepped-requires : tie.Need-write-stepped-requires
+write-stepped-requires c κs = search needs
 
 write-answer-requires : tie.Need-write-answer-requires
 write-answer-requires c κs = search needs
@@ -40,7 +41,7 @@ unfolding steps
 returns-2 c = let x = c .before .before .before .before .before .before .before .before .before .before .before .before .before .before .before .before .args in
     let e = sym (c .before .before .before .before .before .before .before .before .before .before .before .before .read-state .ensures) ∙ c .before .before .before .before .before .before .before .before .before .before .read .given .1 in
     let r = steps-is (step (c .before .before .before .before .before .before .before .before .before .before .read .given .0 .0) (x .carry .now) (x .chunk .now)) (c .before .before .before .before .before .before .before .step .result) _ (c .before .before .before .before .before .before .before .step .ensures) in
-    (c .before .before .write-state .ensures ∙ rw (e, r .0), (c .write-answer .ensures ∙ rw (e, r .0), r .1 ∙ rw e))
+    (c .before .before .write-stepped .ensures ∙ rw (e, r .0) (sym (stepped-words (x .state .now) _ e (x .carry .now) (x .chunk .now) _ (step-stays _ (x .carry .now) (x .chunk .now)))), (c .write-answer .ensures ∙ rw (e, r .0), r .1 ∙ rw e))
 
 pub orgnevis-step-spec : {M : Type 1} → statement M
 orgnevis-step-spec =
@@ -51,7 +52,7 @@ orgnevis-step-spec =
     write-plain-requires
     enum-known-read
     step-requires
-    write-state-requires
+    write-stepped-requires
     write-answer-requires
     returns
     same-length
