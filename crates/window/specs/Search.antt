@@ -1,5 +1,6 @@
 -- What the searches' inner functions answer.
 use mathlib.Core.Path.{_≡_}
+use mathlib.Core.Logic.{_⊎_}
 use Prim.Native.Nat.{ℕ, _+_, _≤_}
 use mathlib.Core.Bool.{Bool, false, _||_}
 use mathlib.Core.List.{List, [], _∷_}
@@ -27,3 +28,9 @@ pub record PastNone (t : ℕ → Bool) (xs : List ℕ) (i r : ℕ) : Type 0 wher
   pub low : i ≤ r
   pub high : r ≤ length xs
   pub same : i + first t (drop i xs) ≡ r + first t (drop r xs)
+
+-- and r is n, or there the byte is told
+pub record StopsBy (t : ℕ → Bool) (xs : List ℕ) (i n r : ℕ) : Type 0 where
+  pub past : PastNone t xs i r
+  pub within : r ≤ n
+  pub there : (r ≡ n) ⊎ (first t (drop r xs) ≡ 0)

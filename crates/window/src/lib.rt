@@ -7,7 +7,7 @@ ghost use lib.ListN.{length, getD, take, drop};
 ghost use Rattle.sum.specs.Sum.{sumOf};
 ghost use Rattle.window.specs.Sync.{isSync, firstSync, first};
 ghost use Rattle.window.specs.EndMark.{endMark};
-ghost use Rattle.window.specs.Search.{is, anyOf, told, PastNone};
+ghost use Rattle.window.specs.Search.{is, anyOf, told, PastNone, StopsBy};
 use sum::Sums;
 
 pub const UBX_SYNC_CHAR_1: u8 = 0xB5;
@@ -110,14 +110,15 @@ fn any(needle: Needle, s: &[u8]) -> bool
     }
 }
 
-// From `from` on past whole blocks of `size` bytes that have none of what is looked for.
-fn past_blocks(needle: Needle, s: &[u8], from: usize, size: usize) -> usize
-    requires { ⌜ (from ≤ length (now s)) × (0 < size) ⌝ }
+// From `from` on past whole blocks of 128 bytes, or of 16, that have none of what is looked for. The sizes are written out so
+// that a block's bytes are compared many at a time.
+fn past_128(needle: Needle, s: &[u8], from: usize) -> usize
+    requires { ⌜ from ≤ length (now s) ⌝ }
     ensures { λ r. ⌜ PastNone (told needle) (now (s .entry)) from r ⌝ }
 {
     let mut i = from;
-    while s.len() - i >= size {
-        let e = i + size;
+    while s.len() - i >= 128 {
+        let e = i + 128;
         if any(needle, &s[i..e]) {
             break;
         }
@@ -126,19 +127,49 @@ fn past_blocks(needle: Needle, s: &[u8], from: usize, size: usize) -> usize
     i
 }
 
-// The place of the first byte of s that is looked for, or its length: past blocks that have none, then byte by byte.
-fn find_in(needle: Needle, s: &[u8]) -> usize
-    ensures { λ r. ⌜ r ≡ first (told needle) (now (s .entry)) ⌝ }
+fn past_16(needle: Needle, s: &[u8], from: usize) -> usize
+    requires { ⌜ from ≤ length (now s) ⌝ }
+    ensures { λ r. ⌜ PastNone (told needle) (now (s .entry)) from r ⌝ }
 {
-    let far = past_blocks(needle, s, 0, 128);
-    let mut i = past_blocks(needle, s, far, 16);
-    while i < s.len() {
+    let mut i = from;
+    while s.len() - i >= 16 {
+        let e = i + 16;
+        if any(needle, &s[i..e]) {
+            break;
+        }
+        i = e;
+    }
+    i
+}
+
+// From `from` on past bytes that are not looked for, byte by byte, up to `to`.
+fn past_bytes(needle: Needle, s: &[u8], from: usize, to: usize) -> usize
+    requires { ⌜ (from ≤ to) × (to ≤ length (now s)) ⌝ }
+    ensures { λ r. ⌜ StopsBy (told needle) (now (s .entry)) from to r ⌝ }
+{
+    let mut i = from;
+    while i < to {
         if tells(needle, s[i]) {
             break;
         }
         i += 1;
     }
     i
+}
+
+// The place of the first byte of s that is looked for, or its length: the first four bytes by themselves, then past blocks that
+// have none, then byte by byte.
+fn find_in(needle: Needle, s: &[u8]) -> usize
+    ensures { λ r. ⌜ r ≡ first (told needle) (now (s .entry)) ⌝ }
+{
+    let near = if s.len() < 4 { s.len() } else { 4 };
+    let i = past_bytes(needle, s, 0, near);
+    if i < near {
+        return i;
+    }
+    let far = past_128(needle, s, i);
+    let late = past_16(needle, s, far);
+    past_bytes(needle, s, late, s.len())
 }
 
 // The place of the window's first byte from k on that is looked for, or the window's length where there is none.

@@ -1,4 +1,4 @@
--- `window::past_blocks` meets its contract: each block that is passed has none of what is looked for.
+-- `window::past_16` meets its contract: each block that is passed has none of what is looked for.
 use mathlib.Core.Path.{_≡_, sym, _∙_}
 use Prim.Native.Nat.{_+_, _-_, _≤_}
 use native.Mathlib.Omega.{arith}
@@ -6,17 +6,17 @@ use lib.ListN.{length}
 use Rattle.window.specs.Search.{told, PastNone}
 use Rattle.window.proofs.Laws.{first-past}
 use borrow.Author.Needs.{needs}
-use Rattle.window.proofs.past_blocks.Statement.{statement}
-use Rattle.window.proofs.past_blocks.Tie as tie
+use Rattle.window.proofs.past_16.Statement.{statement}
+use Rattle.window.proofs.past_16.Tie as tie
 
 abbrev Inv-loop : tie.InvT-loop
-Inv-loop needle s from size i₀ i = PastNone (told needle) s from i
+Inv-loop needle s from i₀ i = PastNone (told needle) s from i
 
 abbrev μ-loop : tie.MeasureT-loop
-μ-loop needle s from size i₀ i = length s - i
+μ-loop needle s from i₀ i = length s - i
 
 loop-holds : tie.Need-loop-holds Inv-loop μ-loop
-loop-holds c = let x = c .before .args in record { low = omega arith; high = c .before .pre .0; same = search needs }
+loop-holds c = record { low = omega arith; high = c .before .pre; same = search needs }
 
 sub-loop : tie.Need-sub-loop Inv-loop μ-loop
 sub-loop c = omega (arith, c .loop .inv .high)
@@ -41,12 +41,12 @@ loop-less c = omega (arith, c .before .before .before .before .loop .inv .high)
 
 loop-again : tie.Need-loop-again Inv-loop μ-loop
 loop-again c = let x = c .before .before .before .before .before .before .args in let i = c .before .before .before .before .loop .i in
-    let n : i + x .size - i ≡ x .size = omega arith in
-    let h : i + x .size ≤ length (x .s .now) = omega (arith, c .before .before .before .before .loop .inv .high) in
+    let n : i + 16 - i ≡ 16 = omega arith in
+    let h : i + 16 ≤ length (x .s .now) = omega (arith, c .before .before .before .before .loop .inv .high) in
     record {
       low = omega (arith, c .before .before .before .before .loop .inv .low);
       high = h;
-      same = omega (arith, c .before .before .before .before .loop .inv .same, first-past (told (x .needle)) (x .s .now) i (x .size) h (rw n at (sym (c .before .any .ensures) ∙ c .if1 .left)));
+      same = omega (arith, c .before .before .before .before .loop .inv .same, first-past (told (x .needle)) (x .s .now) i (16) h (rw n at (sym (c .before .any .ensures) ∙ c .if1 .left)));
     }
 
 returns : tie.Need-returns Inv-loop μ-loop
@@ -55,8 +55,8 @@ returns c = c .before .loop .inv
 returns-2 : tie.Need-returns-2 Inv-loop μ-loop
 returns-2 c = c .before .before .before .before .loop .inv
 
-pub past-blocks-spec : {M : Type 1} → statement M
-past-blocks-spec =
+pub past-16-spec : {M : Type 1} → statement M
+past-16-spec =
     tie.close
     (tie.spec
     Inv-loop
