@@ -2,11 +2,11 @@
 use mathlib.Core.Path.{_≡_, refl, sym, ap, _∙_}
 use mathlib.Core.Bool.{Bool, true, false, _&&_, _||_, and-false, or-false, true≢false}
 use mathlib.Core.List.{List, [], _∷_, _++_}
-use Prim.Native.Nat.{ℕ, suc, _+_, _-_, _≤_, _<_}
-use native.Mathlib.Nat.{add-zero, add-sub-of-le}
+use Prim.Native.Nat.{ℕ, zero, suc, _+_, _-_, _≤_, _<_, min}
+use native.Mathlib.Nat.{add-zero, add-sub-of-le, sub-zero, suc-sub-suc, zero-min, min-zero, suc-min-suc}
 use native.Mathlib.Omega.{arith}
 use lib.ListN.{length, getD, take, drop, length-drop, take-append-drop, drop-of-length-le, List·getD-append}
-use lib.Seq.{drop-cons, drop-drop, getD-drop, getD-append-add, length-take-le, take-all, drop-append-le, drop-append-add, take-append-le, take-append-add}
+use lib.Seq.{drop-cons, drop-drop, getD-drop, getD-append-add, length-take-le, take-all, drop-append-le, drop-append-add}
 use lib.Dec.{eqb}
 use Rattle.window.specs.Pick.{pick}
 use Rattle.window.proofs.Pick.{by-pick}
@@ -36,23 +36,30 @@ drop-left a b k h = sym (drop-append-le k a b h)
 pub drop-right : (a b : List ℕ) (k : ℕ) → length a ≤ k → drop (k - length a) b ≡ drop k (a ++ b)
 drop-right a b k h = sym (drop-append-add a b (k - length a)) ∙ ap (λ (i : ℕ). drop i (a ++ b)) (add-sub-of-le h)
 
--- a part
-module _ (a b : List ℕ) (from to : ℕ) (order : from ≤ to) where
-  pub part-left : to ≤ length a → take (to - from) (drop from a) ≡ take (to - from) (drop from (a ++ b))
-  part-left h =
-      let f : from ≤ length a = omega arith in
-      let l : to - from ≤ length (drop from a) = simp length-drop (omega arith) in
-      rw (drop-append-le from a b f, take-append-le (to - from) (drop from a) b l)
+-- the first bytes, and all from k on, as the first list's and the second's
+take-two : (k : ℕ) (a b : List ℕ) → take (min k (length a)) a ++ take (k - min k (length a)) b ≡ take k (a ++ b)
+take-two zero a b = rw zero-min
+take-two (suc k) [] b = rw (min-zero, sub-zero)
+take-two (suc k) (x ∷ a) b = rw (suc-min-suc, suc-sub-suc) (ap (λ (l : List ℕ). x ∷ l) (take-two k a b))
 
-  pub part-right : length a ≤ from → take (to - length a - (from - length a)) (drop (from - length a) b) ≡ take (to - from) (drop from (a ++ b))
-  part-right h =
-      let n : to - length a - (from - length a) ≡ to - from = omega arith in
-      rw n (ap (λ (l : List ℕ). take (to - from) l) (drop-right a b from h))
+pub drop-two : (k : ℕ) (a b : List ℕ) → drop (min k (length a)) a ++ drop (k - min k (length a)) b ≡ drop k (a ++ b)
+drop-two zero a b = rw zero-min
+drop-two (suc k) [] b = rw (min-zero, sub-zero)
+drop-two (suc k) (x ∷ a) b = rw (suc-min-suc, suc-sub-suc) (drop-two k a b)
 
-  pub part-both : from ≤ length a → length a ≤ to → drop from a ++ take (to - length a) b ≡ take (to - from) (drop from (a ++ b))
-  part-both h k =
-      let n : length (drop from a) + (to - length a) ≡ to - from = simp length-drop (omega arith) in
-      rw (drop-append-le from a b h, ← n) (sym (take-append-add (drop from a) b (to - length a)))
+-- a part: the first list's, then the second's
+rest-two : (from to f t : ℕ) → f ≤ from → f ≤ t → t ≤ to → to - from - (t - f) ≡ to - t - (from - f)
+rest-two from to f t p q r = omega arith
+
+pub part-two : (a b : List ℕ) (from to : ℕ) → from ≤ to →
+    let f = min from (length a) in let t = min to (length a) in
+    take (t - f) (drop f a) ++ take (to - t - (from - f)) (drop (from - f) b) ≡ take (to - from) (drop from (a ++ b))
+part-two a b from to h =
+    let f : ℕ = min from (length a) in
+    let t : ℕ = min to (length a) in
+    let m : min (to - from) (length (drop f a)) ≡ t - f = simp length-drop (omega arith) in
+    let n = rest-two from to f t (omega arith) (omega arith) (omega arith) in
+    rw (← drop-two from a b, ← take-two (to - from) (drop f a) (drop (from - f) b), m, n)
 
 -- ---- the first byte that a test tells
 

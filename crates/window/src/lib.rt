@@ -2,7 +2,7 @@
 // list. Rust: parser/buffer.rs, `DualBuffer`, and constants.rs.
 ghost use mathlib.Core.Path.{_≡_};
 ghost use mathlib.Core.List.{_++_};
-ghost use Prim.Native.Nat.{_+_, _-_, _≤_, _<_};
+ghost use Prim.Native.Nat.{_+_, _-_, _≤_, _<_, min};
 ghost use lib.ListN.{length, getD, take, drop};
 ghost use Rattle.sum.specs.Sum.{sumOf};
 ghost use Rattle.window.specs.Sync.{isSync, firstSync, first};
@@ -39,6 +39,13 @@ pub enum Found {
 enum Needle {
     Sync(Mode),
     Cr,
+}
+
+// The smaller of two numbers.
+pub fn least(x: usize, y: usize) -> usize
+    ensures { λ r. ⌜ r ≡ min x y ⌝ }
+{
+    if x < y { x } else { y }
 }
 
 // Whether a byte is a sync byte of the mode.
@@ -162,7 +169,7 @@ fn past_bytes(needle: Needle, s: &[u8], from: usize, to: usize) -> usize
 fn find_in(needle: Needle, s: &[u8]) -> usize
     ensures { λ r. ⌜ r ≡ first (told needle) (now (s .entry)) ⌝ }
 {
-    let near = if s.len() < 4 { s.len() } else { 4 };
+    let near = least(s.len(), 4);
     let i = past_bytes(needle, s, 0, near);
     if i < near {
         return i;
@@ -199,22 +206,19 @@ pub fn find_sync(mode: Mode, a: &[u8], b: &[u8], k: usize) -> usize
     find(Needle::Sync(mode), a, b, k)
 }
 
-// The sum of the window's bytes from `from` up to, not including, `to`.
+// The sum of the window's bytes from `from` up to, not including, `to`: it runs over the first slice's part, then on over the
+// second's.
 pub fn sum_of(a: &[u8], b: &[u8], from: usize, to: usize) -> Sums
     requires { ⌜ (from ≤ to) × (to ≤ length (now a) + length (now b)) ⌝ }
     ensures { λ r. ⌜ r ≡ sumOf (take (to - from) (drop from (now (a .entry) ++ now (b .entry)))) ⌝ }
 {
     let la = a.len();
-    if to <= la {
-        return sum::update(sum::new(), &a[from..to]);
-    }
-    let end = to - la;
-    if la <= from {
-        let start = from - la;
-        return sum::update(sum::new(), &b[start..end]);
-    }
-    let first = sum::update(sum::new(), &a[from..]);
-    sum::update(first, &b[..end])
+    let f = least(from, la);
+    let t = least(to, la);
+    let first = sum::update(sum::new(), &a[f..t]);
+    let start = from - f;
+    let end = to - t;
+    sum::update(first, &b[start..end])
 }
 
 // The window's first CR that is followed at once by LF.

@@ -7,8 +7,11 @@ use borrow.Author.Needs.{needs}
 use Rattle.window.proofs.find_in.Statement.{statement}
 use Rattle.window.proofs.find_in.Tie as tie
 
+least-requires : tie.Need-least-requires
+least-requires c κs = search needs
+
 past-bytes-requires : tie.Need-past-bytes-requires
-past-bytes-requires c κs = ⊎-elim (λ w. (omega arith, omega arith)) (λ w. (omega arith, omega arith)) (c .if1 .came)
+past-bytes-requires c κs = search needs
 
 returns : tie.Need-returns
 returns c = let p = c .before .past-bytes .ensures in let q = p .past .same in ⊎-elim (λ e. absurd (omega arith)) (λ e. omega arith) (p .there)
@@ -35,6 +38,7 @@ pub find-in-spec : {M : Type 1} → statement M
 find-in-spec =
     tie.close
     (tie.spec
+    least-requires
     past-bytes-requires
     returns
     past-128-requires
