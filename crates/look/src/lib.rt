@@ -298,12 +298,9 @@ fn look_at(mode: Mode, max: u16, cap: usize, a: &[u8], b: &[u8], k: usize) -> Si
     requires { ⌜ k ≤ length (now a) + length (now b) ⌝ }
     ensures { λ r. ⌜ r ≡ moveAt mode max cap (length (now (a .entry))) (now (a .entry) ++ now (b .entry)) k ⌝ }
 {
-    let la = a.len();
-    if k < la {
-        return look(mode, max, cap, &a[k..], b);
-    }
-    let j = k - la;
-    look(mode, max, cap, &a[la..], &b[j..])
+    let i = window::least(k, a.len());
+    let j = k - i;
+    look(mode, max, cap, &a[i..], &b[j..])
 }
 
 // Looks, and passes what is to be passed, until something is to be said. The bytes up to the next sync byte go at once.
