@@ -1,15 +1,19 @@
 -- The two slices that the code lends, `&carry[off..live]` and `&chunk[part..]`, are the window.
 use mathlib.Core.Path.{_≡_, sym, ap, _∙_}
 use mathlib.Core.List.{List, _++_}
-use Prim.Native.Nat.{ℕ, _+_, _-_, _≤_, min}
+use mathlib.Core.Bool.{true}
+use Prim.Native.Nat.{ℕ, _+_, _-_, _≤_, _<_, min}
 use native.Mathlib.Omega.{arith}
-use lib.ListN.{length, take, drop}
+use native.Mathlib.Nat.{add-zero}
+use lib.ListN.{length, getD, take, drop, length-append}
+use lib.Seq.{getD-drop, getD-take}
 use Rattle.carry.proofs.Laws.{drop-take}
-use Rattle.window.proofs.Laws.{from}
+use Rattle.window.specs.Sync.{isSync, firstSync}
+use Rattle.window.proofs.Laws.{from, joined-left, first-here}
 use Rattle.look.specs.declared.Verdict.{Verdict}
 use Rattle.look.specs.Passed.{Stops}
 use Rattle.framer.specs.declared.State.{State}
-use Rattle.framer.specs.Words.{leftLen, window}
+use Rattle.framer.specs.Words.{left, leftLen, ahead, window}
 use Rattle.framer.specs.Ready.{Sane}
 use Rattle.framer.proofs.Window.{left-length}
 
@@ -22,6 +26,16 @@ pub stops-window : (s : State) (carry chunk : List ℕ) → Sane s carry chunk �
     → Stops (s .mode) (s .max) (s .cap) (length (take (s .live - s .off) (drop (s .off) carry))) (take (s .live - s .off) (drop (s .off) carry) ++ take (length chunk - s .part) (drop (s .part) chunk)) k v
     → Stops (s .mode) (s .max) (s .cap) (leftLen s) (window s carry chunk) k v
 stops-window s carry chunk ok k v st = rw (left-part carry (s .off) (s .live) (ok .offs), from chunk (s .part), left-length s carry chunk ok) at st
+
+-- where what is left of the carry begins with a sync byte, that is the window's first
+pub syncs-at-once : (s : State) (carry chunk : List ℕ) → Sane s carry chunk → s .off < s .live → isSync (s .mode) (getD carry (s .off) 0) ≡ true
+    → firstSync (s .mode) (window s carry chunk) ≡ 0
+syncs-at-once s carry chunk ok h e =
+    let l : 0 < length (left s carry) = rw (left-length s carry chunk ok) (omega arith) in
+    let w : 0 < length (window s carry chunk) = rw length-append (omega arith) in
+    let b : getD (window s carry chunk) 0 0 ≡ getD carry (s .off) 0 =
+    sym (joined-left (left s carry) (ahead s chunk) 0 l) ∙ rw (getD-drop, add-zero) (getD-take (s .live) carry (s .off) 0 h) in
+    first-here (isSync (s .mode)) (window s carry chunk) 0 w (rw b e)
 
 -- what a close keeps and loses, where u bytes are left and r stand ahead
 pub kept-is : (u r cap : ℕ) → u ≤ cap → u + min r (cap - u) ≡ min (u + r) cap

@@ -16,6 +16,7 @@ use look::Kind;
 use look::Tale;
 use look::Verdict;
 use window::Mode;
+use window::least;
 
 // The longest carry, and the longest chunk.
 const LIMIT: usize = 16384;
@@ -118,12 +119,6 @@ pub struct Closed {
 struct Taken {
     place: Place,
     state: State,
-}
-
-fn least(x: usize, y: usize) -> usize
-    ensures { λ r. ⌜ r ≡ min x y ⌝ }
-{
-    if x < y { x } else { y }
 }
 
 // An idle state with so many live bytes.
@@ -261,7 +256,7 @@ fn drained(s: State, k: usize) -> State
     }
 }
 
-// An opening that is not refused.
+// An opening that is not refused. Where the carry begins with a sync byte, there is nothing to look for.
 fn open_well(s: State, carry: &[u8], chunk: &[u8]) -> State
     requires { ⌜ Ready (noted s (length (now chunk))) (now carry) (now chunk) ⌝ }
     ensures { λ r. ⌜ r ≡ openOn s (now (carry .entry)) (now (chunk .entry)) Granted .state ⌝ }
@@ -277,6 +272,11 @@ fn open_well(s: State, carry: &[u8], chunk: &[u8]) -> State
         part: 0,
         ..s
     };
+    if off < live {
+        if window::is_sync(mode, carry[off]) {
+            return next;
+        }
+    }
     let i = window::find_sync(mode, &carry[off..live], chunk, 0);
     if i < (live - off) + len {
         return drained(next, i);
