@@ -1,3 +1,4 @@
 pub mod Rules
 pub mod Within
 pub mod Passed
+pub mod OneSide

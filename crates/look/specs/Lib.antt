@@ -1,3 +1,4 @@
 pub mod Rules
 pub mod Moves
 pub mod Passed
+pub mod OneSide

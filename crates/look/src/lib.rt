@@ -1,8 +1,8 @@
 // What stands at the window's front, and what a step says of it. Rust: parser.rs, the heads of the three iterators' `next`
 // and `extract_packet_ubx`, `extract_packet_rtcm`, `extract_packet_nmea`; parser/buffer.rs, `can_drain_and_take`.
 ghost use mathlib.Core.Path.{_≡_};
-ghost use mathlib.Core.List.{_++_};
-ghost use Prim.Native.Nat.{_+_, _≤_, _<_, _^_};
+ghost use mathlib.Core.List.{List, _++_};
+ghost use Prim.Native.Nat.{ℕ, _+_, _*_, _%_, _≤_, _<_, _^_};
 ghost use lib.ListN.{length};
 ghost use lib.Dec.{ltb};
 ghost use Rattle.sum.specs.Sum.{pairOf};
@@ -11,9 +11,10 @@ ghost use Rattle.look.specs.declared.Kind.the-variants.{Ubx, Rtcm, Sente
 ghost use Rattle.look.specs.declared.Tale.the-variants.{WrongSum};
 ghost use Rattle.look.specs.declared.Verdict.the-variants.{Tell};
 ghost use Rattle.look.specs.declared.Sight.the-variants.{Say};
-ghost use Rattle.look.specs.Rules.{skip, size, claim, lookUbx, lookRtcm, lookNmea, endAt};
-ghost use Rattle.look.specs.Moves.{canHand, cost, judge, lacks, settled, stepMove};
-ghost use Rattle.look.specs.Passed.{moveAt, Stops};
+ghost use Rattle.look.specs.Rules.{skip, size, far, claim, lookUbx, lookRtcm, lookNmea, endAt};
+ghost use Rattle.look.specs.Moves.{canHand, cost, judge, judgeSum, lacks, settled, stepMove};
+ghost use Rattle.look.specs.Passed.{moveAt, Passed, Stops};
+ghost use Rattle.look.specs.OneSide.{firstOf, Begins, Tells};
 use sum::Sums;
 use window::Found;
 use window::Mode;
@@ -63,6 +64,13 @@ pub enum Why {
 pub enum Sight {
     Pass(Why),
     Say(Verdict),
+}
+
+// What one side of the window tells of its front: nothing; bytes to pass; what is said.
+enum Hint {
+    Unsure,
+    Past(Why),
+    Sure(Verdict),
 }
 
 // How many bytes are passed in silence, and what is said there.
@@ -147,6 +155,20 @@ fn wrong_sum(a: u8, b: u8, got: Sums) -> Verdict
     Verdict::Tell(tale)
 }
 
+// What the received pair a, b and the computed one say of a UBX frame.
+fn judged(a: u8, b: u8, got: Sums, class: u8, id: u8, n: usize) -> Verdict
+    ensures { λ r. ⌜ r ≡ judgeSum a b got (Ubx class id n) ⌝ }
+{
+    if a != got.a {
+        return wrong_sum(a, b, got);
+    }
+    if b != got.b {
+        return wrong_sum(a, b, got);
+    }
+    let kind = Kind::Ubx { class, id, n };
+    Verdict::Hand(kind)
+}
+
 // A whole UBX frame: its sum decides.
 fn ubx_judged(a: &[u8], b: &[u8], class: u8, id: u8, n: usize) -> Verdict
     requires { ⌜ n + 8 ≤ length (now a) + length (now b) ⌝ }
@@ -155,14 +177,7 @@ fn ubx_judged(a: &[u8], b: &[u8], class: u8, id: u8, n: usize) -> Verdict
     let got = window::sum_of(a, b, UBX_SYNC_SIZE, UBX_HEADER_LEN + n);
     let ck_a = window::byte_at(a, b, UBX_HEADER_LEN + n);
     let ck_b = window::byte_at(a, b, UBX_HEADER_LEN + n + 1);
-    if ck_a != got.a {
-        return wrong_sum(ck_a, ck_b, got);
-    }
-    if ck_b != got.b {
-        return wrong_sum(ck_a, ck_b, got);
-    }
-    let kind = Kind::Ubx { class, id, n };
-    Verdict::Hand(kind)
+    judged(ck_a, ck_b, got, class, id, n)
 }
 
 // A UBX head with n at most MAX.
@@ -208,7 +223,14 @@ fn wide(x: u8) -> usize
     x as usize
 }
 
-// Rule 3, at D3: the length is the low 10 bits of bytes 1 and 2, big-endian.
+// An RTCM frame's length: the low 10 bits of its two bytes, big-endian.
+fn rtcm_length(high: u8, low: u8) -> usize
+    ensures { λ r. ⌜ r ≡ (256 * high + low) % 1024 ⌝ }
+{
+    (256 * wide(high) + wide(low)) % 1024
+}
+
+// Rule 3, at D3.
 fn at_rtcm(cap: usize, a: &[u8], b: &[u8]) -> Verdict
     ensures { λ r. ⌜ Say r ≡ settled cap (length (now (a .entry))) (now (a .entry) ++ now (b .entry)) (lookRtcm (now (a .entry) ++ now (b .entry))) ⌝ }
 {
@@ -216,9 +238,7 @@ fn at_rtcm(cap: usize, a: &[u8], b: &[u8]) -> Verdict
     if w < RTCM_HEADER_SIZE {
         return Verdict::Wait(0);
     }
-    let high = wide(window::byte_at(a, b, 1));
-    let low = wide(window::byte_at(a, b, 2));
-    let n = (256 * high + low) % 1024;
+    let n = rtcm_length(window::byte_at(a, b, 1), window::byte_at(a, b, 2));
     let size = n + RTCM_HEADER_SIZE;
     if can_hand(cap, a.len(), w, 0, size) {
         let kind = Kind::Rtcm { n };
@@ -303,12 +323,120 @@ fn look_at(mode: Mode, max: u16, cap: usize, a: &[u8], b: &[u8], k: usize) -> Si
     look(mode, max, cap, &a[i..], &b[j..])
 }
 
-// Looks, and passes what is to be passed, until something is to be said. The bytes up to the next sync byte go at once.
-pub fn seek(mode: Mode, max: u16, cap: usize, a: &[u8], b: &[u8]) -> Stop
+// How many bytes are passed, by why.
+fn far(why: Why) -> usize
+    ensures { λ r. ⌜ r ≡ far why ⌝ }
+{
+    match why {
+        Why::NoSync => 1,
+        Why::NotPair => 1,
+        Why::OverMax => 2,
+    }
+}
+
+// The first slice that has bytes.
+fn first_of<'a>(a: &'a [u8], b: &'a [u8]) -> &'a [u8]
+    ensures { λ r. ⌜ now r ≡ firstOf (now (a .entry)) (now (b .entry)) ⌝ }
+{
+    if a.len() == 0 { b } else { a }
+}
+
+// Rule 2, where one side has the head. The window has w bytes.
+fn glance_ubx(max: u16, cap: usize, s: &[u8], w: usize) -> Hint
+    requires { ⌜ 6 ≤ length (now s) ⌝ }
+    ensures { λ r. ⌜ ((u : ℕ) (W : List ℕ) → Begins (now (s .entry)) W u w → Tells r (settled cap u W (lookUbx max W))) ⌝ }
+{
+    if s[1] != window::UBX_SYNC_CHAR_2 {
+        return Hint::Past(Why::NotPair);
+    }
+    let m = sum::word(s[4], s[5]);
+    if max < m {
+        return Hint::Past(Why::OverMax);
+    }
+    let n = m as usize;
+    if w < n + 8 {
+        let v = lacks(cap, w, UBX_SYNC_SIZE, n + UBX_CHECKSUM_LEN);
+        return Hint::Sure(v);
+    }
+    if s.len() < n + 8 {
+        return Hint::Unsure;
+    }
+    let end = UBX_HEADER_LEN + n;
+    let got = sum::update(sum::new(), &s[UBX_SYNC_SIZE..end]);
+    let v = judged(s[end], s[end + 1], got, s[2], s[3], n);
+    Hint::Sure(v)
+}
+
+// Rule 3, where one side has the head.
+fn glance_rtcm(cap: usize, s: &[u8], w: usize) -> Hint
+    requires { ⌜ 3 ≤ length (now s) ⌝ }
+    ensures { λ r. ⌜ ((u : ℕ) (W : List ℕ) → Begins (now (s .entry)) W u w → Tells r (settled cap u W (lookRtcm W))) ⌝ }
+{
+    let n = rtcm_length(s[1], s[2]);
+    let size = n + RTCM_HEADER_SIZE;
+    if w < size {
+        let v = lacks(cap, w, 1, size);
+        return Hint::Sure(v);
+    }
+    if s.len() < size {
+        return Hint::Unsure;
+    }
+    let kind = Kind::Rtcm { n };
+    Hint::Sure(Verdict::Hand(kind))
+}
+
+// What one side alone tells of the front of a window of w bytes.
+fn glance(mode: Mode, max: u16, cap: usize, s: &[u8], w: usize) -> Hint
+    requires { ⌜ 6 ≤ length (now s) ⌝ }
+    ensures { λ r. ⌜ ((u : ℕ) (W : List ℕ) → Begins (now (s .entry)) W u w → Tells r (stepMove mode max cap u W)) ⌝ }
+{
+    let x = s[0];
+    if !window::is_sync(mode, x) {
+        return Hint::Past(Why::NoSync);
+    }
+    if x == window::UBX_SYNC_CHAR_1 {
+        return glance_ubx(max, cap, s, w);
+    }
+    if x == window::RTCM_SYNC_CHAR {
+        return glance_rtcm(cap, s, w);
+    }
+    Hint::Unsure
+}
+
+// Looks, and passes what is to be passed, until something is to be said: at one side alone as long as that tells, then at both.
+pub fn seek<'a>(mode: Mode, max: u16, cap: usize, a: &'a [u8], b: &'a [u8]) -> Stop
     ensures { λ r. ⌜ Stops mode max cap (length (now (a .entry))) (now (a .entry) ++ now (b .entry)) (r .skip) (r .verdict) ⌝ }
 {
     let w = a.len() + b.len();
+    let s = first_of(a, b);
     let mut skip = 0;
+    while skip < s.len() {
+        if s.len() - skip < UBX_HEADER_LEN {
+            break;
+        }
+        let told = glance(mode, max, cap, &s[skip..], w - skip);
+        match told {
+            Hint::Past(why) => {
+                skip = window::find_sync(mode, a, b, skip + far(why));
+            }
+            Hint::Sure(v) => {
+                return Stop { skip, verdict: v };
+            }
+            Hint::Unsure => {
+                break;
+            }
+        }
+    }
+    seek_on(mode, max, cap, a, b, skip)
+}
+
+// Looks at both sides, from where `from` bytes are passed. The bytes up to the next sync byte go at once.
+fn seek_on(mode: Mode, max: u16, cap: usize, a: &[u8], b: &[u8], from: usize) -> Stop
+    requires { ⌜ (from ≤ length (now a) + length (now b)) × Passed mode max cap (length (now a)) (now a ++ now b) from ⌝ }
+    ensures { λ r. ⌜ Stops mode max cap (length (now (a .entry))) (now (a .entry) ++ now (b .entry)) (r .skip) (r .verdict) ⌝ }
+{
+    let w = a.len() + b.len();
+    let mut skip = from;
     let mut verdict = Verdict::Wait(0);
     while skip < w {
         let sight = look_at(mode, max, cap, a, b, skip);
