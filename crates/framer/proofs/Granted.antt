@@ -92,6 +92,21 @@ idle-zeros s o e =
     let h = none-of (ltb 0 (s .off) ∷ ltb 0 (s .used) ∷ ltb 0 (s .chunk) ∷ []) f in
     (omega (arith, ltb-false 0 (s .off) (h .0)), omega (arith, ltb-false 0 (s .used) (h .1 .0)), omega (arith, ltb-false 0 (s .chunk) (h .1 .1 .0)))
 
+-- by the lengths alone: a sound state is granted
+module _ (s : State) (n m : ℕ) (h : Sound s n) where
+  pub granted-use : s .«open» ≡ true → m ≡ s .chunk → mayUse s n m ≡ Granted
+  unfolding mayUse
+  granted-use o e = rw (not-bad s n h, pick-false, o, pick-false, eq-eqb m (s .chunk) e, pick-false)
+
+  pub granted-open : s .«open» ≡ false → m ≤ 16384 → mayOpen s n m ≡ Granted
+  unfolding mayOpen
+  granted-open o f = rw (not-bad s n h, pick-false, o, pick-false, le-ltb _ _ f, pick-false)
+
+-- an idle state with off, used and chunk length 0 is not bad for it
+pub zeros-idle : (s : State) → s .off ≡ 0 → s .used ≡ 0 → s .chunk ≡ 0 → anyOf (ltb 0 (s .off) ∷ ltb 0 (s .used) ∷ ltb 0 (s .chunk) ∷ []) ≡ false
+zeros-idle s a b c =
+    any-none (ltb 0 (s .off) ∷ ltb 0 (s .used) ∷ ltb 0 (s .chunk) ∷ []) (le-ltb 0 (s .off) (omega arith), (le-ltb 0 (s .used) (omega arith), (le-ltb 0 (s .chunk) (omega arith), tt)))
+
 -- a place that is granted ends within its side
 pub view-ends : (p : Place) (sideLen : ℕ) → viewLeave p sideLen ≡ Granted → p .start + p .len ≤ sideLen
 view-ends p sideLen =
@@ -126,11 +141,10 @@ module _ (s : State) (carry chunk : List ℕ) where
       })))
 
   pub grant-use : Usable → mayUse s (length carry) (length chunk) ≡ Granted
-  unfolding mayUse
   grant-use u =
       let r = u .ready in
       let k = r .sane in
-      let nb : isBad s (length carry) ≡ false = not-bad s (length carry) (record {
+      let sound : Sound s (length carry) = record {
         caps = k .caps;
         small = r .small;
         lives = k .lives;
@@ -139,8 +153,8 @@ module _ (s : State) (carry chunk : List ℕ) where
         short = r .short;
         counts = r .counts;
         idles = rw (u .opened);
-      }) in
-      rw (nb, pick-false, u .opened, pick-false, eq-eqb (length chunk) (s .chunk) (k .chunks), pick-false)
+      } in
+      granted-use s (length carry) (length chunk) sound (u .opened) (k .chunks)
 
   -- opening
   pub record Openable : Type 0 where
@@ -158,8 +172,7 @@ module _ (s : State) (carry chunk : List ℕ) where
       (λ n _. record { sound = sound-of s (length carry) bad; closed = o; fits = ltb-false 16384 (length chunk) n })))
 
   pub grant-open : Openable → mayOpen s (length carry) (length chunk) ≡ Granted
-  unfolding mayOpen
-  grant-open h = rw (not-bad s (length carry) (h .sound), pick-false, h .closed, pick-false, le-ltb _ _ (h .fits), pick-false)
+  grant-open h = granted-open s (length carry) (length chunk) (h .sound) (h .closed) (h .fits)
 
   -- its window is the carry's live bytes and the whole chunk
   pub noted-ready : Openable → (s .off ≡ 0) × Ready (noted s (length chunk)) carry chunk

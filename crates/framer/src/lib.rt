@@ -1,6 +1,7 @@
 // The framer: a state of numbers, with carry and chunk lent to each call. Rust: parser.rs, `Parser` and the iterators;
 // parser/buffer.rs, `DualBuffer`'s `drain`, `take` and `Drop`.
 ghost use mathlib.Core.Path.{_≡_};
+ghost use mathlib.Core.Bool.{true};
 ghost use Prim.Native.Nat.{_+_, _≤_, _<_, min};
 ghost use lib.ListN.{length};
 ghost use Rattle.look.specs.Passed.{Says};
@@ -203,10 +204,45 @@ fn is_bad(s: State, carry_len: usize) -> bool
     idle_bad(s)
 }
 
+// Whether a state can be opened at once: where it can, no refusal comes. Tried first, so that the tests of the table, which
+// also find out the number, are made only where one is to be said.
+fn opens(s: State, carry_len: usize, chunk_len: usize) -> bool
+    ensures { λ r. ⌜ (r ≡ true → mayOpen s «carry_len» «chunk_len» ≡ Granted) ⌝ }
+{
+    if s.open {
+        return false;
+    }
+    if s.cap != carry_len {
+        return false;
+    }
+    if LIMIT < carry_len {
+        return false;
+    }
+    if s.cap < s.live {
+        return false;
+    }
+    if s.off != 0 {
+        return false;
+    }
+    if s.used != 0 {
+        return false;
+    }
+    if s.chunk != 0 {
+        return false;
+    }
+    if s.part != 0 {
+        return false;
+    }
+    chunk_len <= LIMIT
+}
+
 // Opening: refusal 2, then 3, then 5.
 fn may_open(s: State, carry_len: usize, chunk_len: usize) -> Leave
     ensures { λ r. ⌜ r ≡ mayOpen s «carry_len» «chunk_len» ⌝ }
 {
+    if opens(s, carry_len, chunk_len) {
+        return Leave::Granted;
+    }
     if is_bad(s, carry_len) {
         return Leave::Denied(Refusal::BadState);
     }
@@ -219,10 +255,45 @@ fn may_open(s: State, carry_len: usize, chunk_len: usize) -> Leave
     Leave::Granted
 }
 
+// Whether a state can be stepped or closed at once, likewise.
+fn is_usable(s: State, carry_len: usize, chunk_len: usize) -> bool
+    ensures { λ r. ⌜ (r ≡ true → mayUse s «carry_len» «chunk_len» ≡ Granted) ⌝ }
+{
+    if !s.open {
+        return false;
+    }
+    if s.cap != carry_len {
+        return false;
+    }
+    if LIMIT < carry_len {
+        return false;
+    }
+    if s.cap < s.live {
+        return false;
+    }
+    if s.live < s.off {
+        return false;
+    }
+    if s.chunk != chunk_len {
+        return false;
+    }
+    if LIMIT < s.chunk {
+        return false;
+    }
+    if s.chunk < s.part {
+        return false;
+    }
+    let w = (s.live - s.off) + (s.chunk - s.part);
+    s.used <= COUNT_LIMIT - w
+}
+
 // Stepping and closing: refusal 2, then 4, then 6.
 fn may_use(s: State, carry_len: usize, chunk_len: usize) -> Leave
     ensures { λ r. ⌜ r ≡ mayUse s «carry_len» «chunk_len» ⌝ }
 {
+    if is_usable(s, carry_len, chunk_len) {
+        return Leave::Granted;
+    }
     if is_bad(s, carry_len) {
         return Leave::Denied(Refusal::BadState);
     }
