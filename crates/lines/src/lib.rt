@@ -13,7 +13,7 @@ use window::Mode;
 pub const LONGEST: usize = 82;
 
 // The bytes of a text.
-fn text(out: &mut [u8], at: usize, s: &[u8]) -> usize
+pub fn text(out: &mut [u8], at: usize, s: &[u8]) -> usize
     requires { ⌜ at + length (now s) ≤ length (now out) ⌝ }
     ensures { λ r. ⌜ Puts (now (s .entry)) (now (out .entry)) at (now (out .exit)) r ⌝ }
 {
@@ -58,7 +58,7 @@ fn hex4(out: &mut [u8], at: usize, n: u16) -> usize
 }
 
 // A label, and a number in decimal.
-fn labelled(out: &mut [u8], at: usize, label: &[u8], n: u64) -> usize
+pub fn labelled(out: &mut [u8], at: usize, label: &[u8], n: u64) -> usize
     requires { ⌜ at + (length (now label) + 20) ≤ length (now out) ⌝ }
     ensures { λ r. ⌜ Puts (now (label .entry) ++ decimal n) (now (out .entry)) at (now (out .exit)) r ⌝ }
     ensures { λ r. ⌜ r ≤ at + (length (now (label .entry)) + 20) ⌝ }
@@ -68,7 +68,7 @@ fn labelled(out: &mut [u8], at: usize, label: &[u8], n: u64) -> usize
 }
 
 // `at P`, with the position in the stream.
-fn here(out: &mut [u8], at: usize, before: u64, p: usize) -> usize
+pub fn here(out: &mut [u8], at: usize, before: u64, p: usize) -> usize
     requires { ⌜ at + 23 ≤ length (now out) ⌝ }
     ensures { λ r. ⌜ Puts (here before p) (now (out .entry)) at (now (out .exit)) r ⌝ }
     ensures { λ r. ⌜ r ≤ at + 23 ⌝ }
@@ -82,7 +82,7 @@ fn here(out: &mut [u8], at: usize, before: u64, p: usize) -> usize
 }
 
 // The end of a line that is a label and a number.
-fn sized(out: &mut [u8], at: usize, label: &[u8], n: u64) -> usize
+pub fn sized(out: &mut [u8], at: usize, label: &[u8], n: u64) -> usize
     requires { ⌜ at + (length (now label) + 21) ≤ length (now out) ⌝ }
     ensures { λ r. ⌜ Puts ((now (label .entry) ++ decimal n) ++ ascii "\n") (now (out .entry)) at (now (out .exit)) r ⌝ }
 {

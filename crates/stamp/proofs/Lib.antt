@@ -1,0 +1,8 @@
+pub mod Calendar
+pub mod Days
+pub mod Ranges
+pub mod Determined
+pub mod Outcomes
+pub mod NeverBack
+pub mod FramesRead
+pub mod Cases

@@ -1,0 +1,415 @@
+// The stamps in what a descriptor gives, on standard output: chunk by chunk, a line for each frame of class 01 and id 21, in lent
+// memory.
+ghost use mathlib.Core.Path.{_≡_};
+ghost use Prim.Native.Nat.{_+_, _≤_};
+ghost use lib.ListN.{length};
+ghost use Rattle.lines.specs.Text.{Puts};
+ghost use Rattle.stamper.specs.Lines.{refused, said, line, tallies, totals};
+ghost use Rattle.stamper.specs.Stamping.{frame, noted, goesOn, oneMore, byReading, tallied, flushed, counted, Makes, Tells, Steps, Through};
+use framer::Answer;
+use framer::Closed;
+use framer::State;
+use libc::STDOUT_FILENO;
+use stamp::Clock;
+use stamp::Fault;
+use stamp::Reading;
+use stamp::Told;
+use window::Mode;
+
+// The longest line: the last one, with eight numbers of 20 digits, and its line end.
+const LONGEST: usize = 218;
+
+// NAV-TIMEUTC.
+const CLASS: u8 = 0x01;
+
+const ID: u8 = 0x21;
+
+// What a step brought: a frame of class 01 and id 21, with its reading; another UBX frame; a wrong sum; an answer that is not
+// counted; or the end of what the chunk gives.
+pub enum Note {
+    Time { at: usize, reading: Reading },
+    Other,
+    Sum,
+    Passed,
+    End,
+}
+
+// Time frames by their reading, other UBX frames, and wrong sums.
+pub struct Tally {
+    pub stamps: u64,
+    pub back: u64,
+    pub refused: u64,
+    pub other: u64,
+    pub sums: u64,
+}
+
+// Where the program stands: the parser and the last stamp; what was counted; used and lost of all closes so far, and kept of the
+// last; how many bytes of lines wait in the buffer; and whether every write so far was taken.
+pub struct Stamping {
+    pub state: State,
+    pub clock: Clock,
+    pub tally: Tally,
+    pub used: u64,
+    pub kept: u64,
+    pub lost: u64,
+    pub waiting: usize,
+    pub up: bool,
+}
+
+// Where it stands, and whether it goes on.
+pub struct Turn {
+    pub stamping: Stamping,
+    pub more: bool,
+}
+
+// A refusal's words, to the line's end.
+fn refused(out: &mut [u8], at: usize, fault: Fault) -> usize
+    requires { ⌜ at + 30 ≤ length (now out) ⌝ }
+    ensures { λ r. ⌜ Puts (refused fault) (now (out .entry)) at (now (out .exit)) r ⌝ }
+{
+    match fault {
+        Fault::NotThisMessage => lines::text(out, at, b" refused not this message\n"),
+        Fault::NotValid => lines::text(out, at, b" refused not valid\n"),
+        Fault::Field => lines::text(out, at, b" refused field\n"),
+    }
+}
+
+// What a frame was read to, to the line's end.
+fn said(out: &mut [u8], at: usize, reading: Reading) -> usize
+    requires { ⌜ at + 30 ≤ length (now out) ⌝ }
+    ensures { λ r. ⌜ Puts (said reading) (now (out .entry)) at (now (out .exit)) r ⌝ }
+{
+    match reading {
+        Reading::Stamp(t) => lines::sized(out, at, b" stamp ", t),
+        Reading::BackBy(d) => lines::sized(out, at, b" back by ", d),
+        Reading::Refused(fault) => refused(out, at, fault),
+    }
+}
+
+// A time frame's line, where earlier closes reported `before` bytes as used. Nothing else has one.
+pub fn line(out: &mut [u8], at: usize, before: u64, note: Note) -> usize
+    requires { ⌜ at + 218 ≤ length (now out) ⌝ }
+    ensures { λ r. ⌜ Puts (line before note) (now (out .entry)) at (now (out .exit)) r ⌝ }
+{
+    match note {
+        Note::Time { at: p, reading } => {
+            let next = lines::here(out, at, before, p);
+            said(out, next, reading)
+        }
+        Note::Other => at,
+        Note::Sum => at,
+        Note::Passed => at,
+        Note::End => at,
+    }
+}
+
+// What was counted.
+fn tallies(out: &mut [u8], at: usize, t: Tally) -> usize
+    requires { ⌜ at + 139 ≤ length (now out) ⌝ }
+    ensures { λ r. ⌜ Puts (tallies t) (now (out .entry)) at (now (out .exit)) r ⌝ }
+    ensures { λ r. ⌜ r ≤ at + 139 ⌝ }
+{
+    let a = lines::labelled(out, at, b"end stamps ", t.stamps);
+    let b = lines::labelled(out, a, b" back ", t.back);
+    let c = lines::labelled(out, b, b" refused ", t.refused);
+    let d = lines::labelled(out, c, b" other ", t.other);
+    lines::labelled(out, d, b" sums ", t.sums)
+}
+
+// The last line: what was counted; used and lost of all closes, kept of the last one.
+pub fn totals(out: &mut [u8], at: usize, t: Tally, used: u64, kept: u64, lost: u64) -> usize
+    requires { ⌜ at + 218 ≤ length (now out) ⌝ }
+    ensures { λ r. ⌜ Puts (totals t used kept lost) (now (out .entry)) at (now (out .exit)) r ⌝ }
+{
+    let a = tallies(out, at, t);
+    let b = lines::labelled(out, a, b" used ", used);
+    let c = lines::labelled(out, b, b" kept ", kept);
+    lines::sized(out, c, b" lost ", lost)
+}
+
+// A UBX frame: a time frame by its class and id, whatever its length. A step tells the reading of every one.
+fn frame(class: u8, id: u8, at: usize, told: Told) -> Note
+    ensures { λ r. ⌜ r ≡ frame class id at told ⌝ }
+{
+    let Told::Frame(reading) = told else {
+        return Note::Other;
+    };
+    if class != CLASS {
+        return Note::Other;
+    }
+    if id != ID {
+        return Note::Other;
+    }
+    Note::Time { at, reading }
+}
+
+// What a step's answer brought.
+fn noted(answer: Answer, told: Told) -> Note
+    ensures { λ r. ⌜ r ≡ noted answer told ⌝ }
+{
+    match answer {
+        Answer::UbxFrame {
+            class,
+            id,
+            at,
+            place: _,
+        } => frame(class, id, at, told),
+        Answer::RtcmFrame { .. } => Note::Passed,
+        Answer::Sentence { .. } => Note::Passed,
+        Answer::WrongSum { .. } => Note::Sum,
+        Answer::NoRoom { .. } => Note::Passed,
+        Answer::NeedMore => Note::End,
+        Answer::Refused(_) => Note::End,
+    }
+}
+
+// Whether there may be more to step to.
+fn goes_on(note: Note) -> bool
+    ensures { λ r. ⌜ r ≡ goesOn note ⌝ }
+{
+    match note {
+        Note::Time { .. } => true,
+        Note::Other => true,
+        Note::Sum => true,
+        Note::Passed => true,
+        Note::End => false,
+    }
+}
+
+// Counted in 64 bits.
+fn one_more(n: u64) -> u64
+    ensures { λ r. ⌜ r ≡ oneMore n ⌝ }
+{
+    std::num::wrapping_add_u64(n, 1)
+}
+
+// One more time frame, counted by its reading.
+fn by_reading(t: Tally, reading: Reading) -> Tally
+    ensures { λ r. ⌜ r ≡ byReading t reading ⌝ }
+{
+    match reading {
+        Reading::Stamp(_) => Tally {
+            stamps: one_more(t.stamps),
+            ..t
+        },
+        Reading::BackBy(_) => Tally {
+            back: one_more(t.back),
+            ..t
+        },
+        Reading::Refused(_) => Tally {
+            refused: one_more(t.refused),
+            ..t
+        },
+    }
+}
+
+// One more of what a step brought.
+fn tallied(t: Tally, note: Note) -> Tally
+    ensures { λ r. ⌜ r ≡ tallied t note ⌝ }
+{
+    match note {
+        Note::Time { at: _, reading } => by_reading(t, reading),
+        Note::Other => Tally {
+            other: one_more(t.other),
+            ..t
+        },
+        Note::Sum => Tally {
+            sums: one_more(t.sums),
+            ..t
+        },
+        Note::Passed => t,
+        Note::End => t,
+    }
+}
+
+// One step: its line is put behind those that wait, and it is counted.
+fn one(l: Stamping, carry: &mut [u8], chunk: &[u8], out: &mut [u8]) -> Turn
+    requires { ⌜ l .waiting + 218 ≤ length (now out) ⌝ }
+    ensures { λ r. ⌜ Tells l (now (carry .entry)) (now (chunk .entry)) (now (out .entry)) r (now (carry .exit)) (now (out .exit)) ⌝ }
+{
+    let from = l.state;
+    let last = l.clock;
+    let timed = stamp::step(last, from, carry, chunk);
+    let answer = timed.answer;
+    let told = timed.told;
+    let note = noted(answer, told);
+    let waiting = line(out, l.waiting, l.used, note);
+    let so_far = l.tally;
+    let tally = tallied(so_far, note);
+    let state = timed.state;
+    let clock = timed.clock;
+    let stamping = Stamping {
+        state,
+        clock,
+        tally,
+        waiting,
+        ..l
+    };
+    Turn {
+        stamping,
+        more: goes_on(note),
+    }
+}
+
+// Writes the lines that wait. A write that fails is told on standard error, and nothing is written after it.
+fn flush(l: Stamping, out: &[u8]) -> Stamping
+    requires { ⌜ l .waiting ≤ length (now out) ⌝ }
+    ensures { λ r. ⌜ r ≡ flushed l (r .up) ⌝ }
+{
+    let n = l.waiting;
+    if !l.up {
+        return Stamping { waiting: 0, ..l };
+    }
+    let up = io::write_all(STDOUT_FILENO, &out[..n]);
+    if !up {
+        os::fail(b"standard output");
+    }
+    Stamping {
+        waiting: 0,
+        up,
+        ..l
+    }
+}
+
+// Room for one more line: those that wait are written where there is none.
+fn with_room(l: Stamping, out: &[u8]) -> Stamping
+    requires { ⌜ (l .waiting ≤ length (now out)) × (218 ≤ length (now out)) ⌝ }
+    ensures { λ r. ⌜ Makes l (length (now (out .entry))) r ⌝ }
+{
+    if LONGEST <= out.len() - l.waiting {
+        return l;
+    }
+    flush(l, out)
+}
+
+// All steps of an opened chunk.
+fn steps(l: Stamping, carry: &mut [u8], chunk: &[u8], out: &mut [u8]) -> Stamping
+    requires { ⌜ (l .waiting ≤ length (now out)) × (218 ≤ length (now out)) ⌝ }
+    ensures { λ r. ⌜ Steps l (now (carry .entry)) (now (chunk .entry)) (now (out .entry)) r (now (carry .exit)) ⌝ }
+{
+    let mut next = l;
+    loop {
+        let ready = with_room(next, out);
+        let turn = one(ready, carry, chunk, out);
+        let stamping = turn.stamping;
+        if !turn.more {
+            return stamping;
+        }
+        next = stamping;
+    }
+}
+
+// The totals with a close's report.
+fn count(l: Stamping, closed: Closed) -> Stamping
+    ensures { λ r. ⌜ r ≡ counted l closed ⌝ }
+{
+    let state = closed.state;
+    Stamping {
+        state,
+        used: std::num::wrapping_add_u64(l.used, closed.used as u64),
+        kept: closed.kept as u64,
+        lost: std::num::wrapping_add_u64(l.lost, closed.lost as u64),
+        ..l
+    }
+}
+
+// A chunk: opened, stepped to its end, closed.
+pub fn through(l: Stamping, carry: &mut [u8], chunk: &[u8], out: &mut [u8]) -> Stamping
+    requires { ⌜ (l .waiting ≤ length (now out)) × (218 ≤ length (now out)) ⌝ }
+    ensures { λ r. ⌜ Through l (now (carry .entry)) (now (chunk .entry)) (now (out .entry)) r (now (carry .exit)) ⌝ }
+{
+    let idle = l.state;
+    let opened = framer::open(idle, carry, chunk);
+    let state = opened.state;
+    let begun = Stamping { state, ..l };
+    let done = steps(begun, carry, chunk, out);
+    let last = done.state;
+    let closed = framer::close(last, carry, chunk);
+    count(done, closed)
+}
+
+// One read, and its chunk. It goes on unless the input ends, or a read or a write fails; a read that fails is told on standard
+// error.
+fn read_on(
+    fd: i32,
+    name: &[u8],
+    l: Stamping,
+    carry: &mut [u8],
+    chunk: &mut [u8],
+    out: &mut [u8],
+) -> Turn
+    requires { ⌜ (l .waiting ≤ length (now out)) × (218 ≤ length (now out)) ⌝ }
+    ensures { λ r. ⌜ r .stamping .waiting ≤ length (now (out .entry)) ⌝ }
+{
+    let got = libc::read(fd, chunk);
+    if got < 0 {
+        os::fail(name);
+    }
+    if got <= 0 {
+        return Turn {
+            stamping: l,
+            more: false,
+        };
+    }
+    let n = io::count(got, chunk);
+    let stamping = through(l, carry, &chunk[..n], out);
+    let more = stamping.up;
+    Turn { stamping, more }
+}
+
+// The last line, and what waits is written.
+fn finish(l: Stamping, out: &mut [u8])
+    requires { ⌜ (l .waiting ≤ length (now out)) × (218 ≤ length (now out)) ⌝ }
+{
+    let last = with_room(l, out);
+    let tally = last.tally;
+    let waiting = totals(out, last.waiting, tally, last.used, last.kept, last.lost);
+    let whole = Stamping { waiting, ..last };
+    flush(whole, out);
+}
+
+// The stamps in the descriptor's bytes, in chunks of at most `chunk`'s length, with `name` for what is told on standard error.
+// Nothing says that an input ends, so the turns are counted down from a number that no run uses up.
+pub fn stamps(
+    fd: i32,
+    name: &[u8],
+    mode: Mode,
+    max: u16,
+    carry: &mut [u8],
+    chunk: &mut [u8],
+    out: &mut [u8],
+)
+    requires { ⌜ 218 ≤ length (now out) ⌝ }
+{
+    let opened = framer::start(carry, mode, max);
+    let state = opened.state;
+    let tally = Tally {
+        stamps: 0,
+        back: 0,
+        refused: 0,
+        other: 0,
+        sums: 0,
+    };
+    let stamping = Stamping {
+        state,
+        clock: Clock::Unset,
+        tally,
+        used: 0,
+        kept: 0,
+        lost: 0,
+        waiting: 0,
+        up: true,
+    };
+    let mut now = Turn {
+        stamping,
+        more: true,
+    };
+    let mut turns = u64::MAX;
+    while now.more && 0 < turns {
+        turns -= 1;
+        let next = now.stamping;
+        now = read_on(fd, name, next, carry, chunk, out);
+    }
+    let last = now.stamping;
+    finish(last, out)
+}
