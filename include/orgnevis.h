@@ -1,4 +1,5 @@
-/* orgnevis.h: frames the byte stream of a u-blox receiver: UBX, RTCM and NMEA.
+/* orgnevis.h: frames the byte stream of a u-blox receiver: UBX, RTCM and NMEA; and writes UBX frames
+ * to be sent to one (at the end of this page).
  *
  * You lend all memory and keep all of it. The library has no heap, no globals, no clock and no
  * threads of its own; a call reads and writes what it is lent, and never past the lengths given.
@@ -114,6 +115,51 @@ void orgnevis_close(uint64_t state[24], uint8_t *carry, size_t carry_len,
 /* Whether a place lies within its side: 0, or 7. Places that step hands out always do. */
 uint64_t orgnevis_view(const uint8_t *carry, size_t carry_len, const uint8_t *chunk,
                        size_t chunk_len, uint64_t side, uint64_t start, uint64_t len);
+
+/* ---- Writing frames
+ *
+ * A UBX frame built in memory of yours, from class, id and a payload that comes in pieces; the length
+ * is named first. The memory may be of any length, and the frame takes its first length + 8 bytes:
+ * the bytes behind it stay as they are, and so do all of them in a call that is refused.
+ *
+ *   begin   once, with the payload's length.        The head: B5 62, class, id, length.
+ *   piece   again and again, also with 0 bytes.     The next bytes of the payload.
+ *   finish  when all of it is written.              The sum, taken over the bytes in the memory.
+ *
+ * Lend the same memory, unchanged, to every call. The frame is then the one that class, id and the
+ * payload make, however it came in pieces, and length + 8 bytes from memory on are to be sent. */
+
+/* The words of a writer: 8, one array per frame. Words 3 to 7 are kept for later and left as they are. */
+enum {
+    ORGNEVIS_WRITER_ROOM = 0,    /* the memory's length */
+    ORGNEVIS_WRITER_LENGTH = 1,  /* the payload's length */
+    ORGNEVIS_WRITER_WRITTEN = 2, /* so many bytes of the payload are written */
+    ORGNEVIS_WRITER_WORDS = 8
+};
+
+/* The writer's refusals, tested in this order; 0 where there is none. */
+enum {
+    ORGNEVIS_WRITER_TOO_LONG = 1,       /* begin: a payload of over 16,376 bytes */
+    ORGNEVIS_WRITER_NO_ROOM = 2,        /* begin: memory under length + 8 bytes; poll: under 8 */
+    ORGNEVIS_WRITER_BAD_STATE = 3,      /* piece, finish: memory of another length, words that begin would
+                                           have refused, or more written than the length */
+    ORGNEVIS_WRITER_PIECE_TOO_LONG = 4, /* piece: it passes the payload's length */
+    ORGNEVIS_WRITER_EARLY = 5           /* finish: not all of the payload is written */
+};
+
+/* Begins a frame. Answers 0, 1 or 2. Refused, words 0 to 2 are 0, which piece and finish refuse. */
+uint64_t orgnevis_begin(uint64_t writer[8], uint8_t *memory, size_t memory_len, uint8_t class_,
+                        uint8_t id, uint64_t length);
+
+/* Writes the next piece of the payload. Answers 0, 3 or 4; refused, no word and no byte has changed. */
+uint64_t orgnevis_piece(uint64_t writer[8], uint8_t *memory, size_t memory_len, const uint8_t *bytes,
+                        size_t bytes_len);
+
+/* Writes the sum. Answers 0, 3 or 5; refused, no word and no byte has changed. */
+uint64_t orgnevis_finish(uint64_t writer[8], uint8_t *memory, size_t memory_len);
+
+/* Writes the MON-VER poll, B5 62 0A 04 00 00 0E 34, at the front of the memory. Answers 0 or 2. */
+uint64_t orgnevis_poll(uint8_t *memory, size_t memory_len);
 
 #ifdef __cplusplus
 }

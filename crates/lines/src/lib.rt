@@ -41,7 +41,7 @@ fn hex_digit(d: u8) -> u8
 }
 
 // A byte in two digits.
-fn hex2(out: &mut [u8], at: usize, n: u8) -> usize
+pub fn hex2(out: &mut [u8], at: usize, n: u8) -> usize
     requires { ⌜ at + 2 ≤ length (now out) ⌝ }
     ensures { λ r. ⌜ Puts (hex2 n) (now (out .entry)) at (now (out .exit)) r ⌝ }
 {

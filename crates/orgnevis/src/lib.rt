@@ -1,4 +1,7 @@
-// The framer for C: five functions over arrays of words and lent bytes. include/orgnevis.h documents them.
+// The framer for C: five functions over arrays of words and lent bytes. include/orgnevis.h documents them. The writer's four stand
+// in writes.rt.
+mod writes;
+
 ghost use mathlib.Core.Path.{_≡_};
 ghost use mathlib.Core.List.{_++_};
 ghost use lib.ListN.{length, drop};

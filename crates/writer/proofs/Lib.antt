@@ -1,0 +1,5 @@
+pub mod Granted
+pub mod Refused
+pub mod Filled
+pub mod ComesBack
+pub mod Determined

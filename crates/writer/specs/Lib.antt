@@ -1,0 +1,5 @@
+pub mod Refusals
+pub mod Writing
+pub mod Promises
+pub mod Runs
+pub mod ComesBack
