@@ -57,7 +57,7 @@ enum {
  *   ORGNEVIS_UBX_FRAME     position  class    id    side  start  length   payload, 2 check bytes
  *   ORGNEVIS_RTCM_FRAME    position                 side  start  length   from D3 on, no parity
  *   ORGNEVIS_SENTENCE      position                 side  start  length   from $ to CR LF
- *   ORGNEVIS_WRONG_SUM     position  expect   got                         the received, the true sum
+ *   ORGNEVIS_WRONG_SUM     position  expect   got   class id     n        the received, the true sum
  *   ORGNEVIS_NO_ROOM       position  size                                 the carry is too small
  *   ORGNEVIS_NEED_MORE                                                    close, and read on
  *   ORGNEVIS_REFUSAL                 number                               nothing has changed
@@ -67,7 +67,9 @@ enum {
  *
  * Side, start and length are a place: the body lies whole in the carry or in the chunk, at
  * (side == ORGNEVIS_CARRY ? carry : chunk) + start. It is not a copy, and a place is good until the
- * next step or close. Copy the bytes if you need them longer. */
+ * next step or close. Copy the bytes if you need them longer.
+ *
+ * A wrong sum names the head that stands at its position: class, id, and n, the payload's length. */
 enum {
     ORGNEVIS_UBX_FRAME = 1,
     ORGNEVIS_RTCM_FRAME = 2,

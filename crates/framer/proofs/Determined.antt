@@ -63,7 +63,7 @@ answersBy vs =
     ∷ UbxFrame (getD vs 1 0) (getD vs 2 0) (getD vs 0 0) (placeBy vs 3 4 5)
     ∷ RtcmFrame (getD vs 0 0) (placeBy vs 1 2 3)
     ∷ Sentence (getD vs 0 0) (placeBy vs 1 2 3)
-    ∷ WrongSum (getD vs 0 0) (getD vs 1 0) (getD vs 2 0)
+    ∷ WrongSum (getD vs 3 0) (getD vs 4 0) (getD vs 5 0) (getD vs 0 0) (getD vs 1 0) (getD vs 2 0)
     ∷ NoRoom (getD vs 0 0) (getD vs 1 0)
     ∷ NeedMore
     ∷ []
@@ -75,7 +75,7 @@ answer-back : (a : Answer) → answerBy (number a) (values a) ≡ a
 answer-back (UbxFrame class id p place) = rw (side-back (place .side))
 answer-back (RtcmFrame p place) = rw (side-back (place .side))
 answer-back (Sentence p place) = rw (side-back (place .side))
-answer-back (WrongSum p expect got) = refl
+answer-back (WrongSum class id n p expect got) = refl
 answer-back (NoRoom p size) = refl
 answer-back NeedMore = refl
 answer-back (Refused r) = ap Refused (refusal-back r)

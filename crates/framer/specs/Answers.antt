@@ -18,7 +18,7 @@ abbrev pub number : Answer → ℕ
 number (UbxFrame class id p place) = 1
 number (RtcmFrame p place) = 2
 number (Sentence p place) = 3
-number (WrongSum p expect got) = 4
+number (WrongSum class id n p expect got) = 4
 number (NoRoom p size) = 5
 number NeedMore = 6
 number (Refused r) = 7
@@ -28,7 +28,7 @@ abbrev pub values : Answer → List ℕ
 values (UbxFrame class id p place) = p ∷ class ∷ id ∷ placeValues place
 values (RtcmFrame p place) = p ∷ placeValues place
 values (Sentence p place) = p ∷ placeValues place
-values (WrongSum p expect got) = p ∷ expect ∷ got ∷ []
+values (WrongSum class id n p expect got) = p ∷ expect ∷ got ∷ class ∷ id ∷ n ∷ []
 values (NoRoom p size) = p ∷ size ∷ []
 values NeedMore = []
 values (Refused r) = refusalNo r ∷ []

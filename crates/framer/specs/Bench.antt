@@ -88,7 +88,7 @@ benchSet =
     -- B3 T cut after 7: need more, kept 7; then frame in carry, start 6, length 2
     ∷ row One 16 23 (opens (take 7 frameT) ∷ steps ∷ closes ∷ opens (0x34 ∷ []) ∷ steps ∷ []) (ok ∷ more ∷ closed 0 7 0 ∷ ok ∷ (1 ∷ 0 ∷ 0x0A ∷ 0x04 ∷ 0 ∷ 6 ∷ 2 ∷ []) ∷ [])
     -- B4 T with last byte 35: expect 0x350E, got 0x340E; then need more
-    ∷ row One 16 23 (opens (take 7 frameT ++ 0x35 ∷ []) ∷ steps ∷ steps ∷ []) (ok ∷ (4 ∷ 0 ∷ 0x350E ∷ 0x340E ∷ []) ∷ more ∷ [])
+    ∷ row One 16 23 (opens (take 7 frameT ++ 0x35 ∷ []) ∷ steps ∷ steps ∷ []) (ok ∷ (4 ∷ 0 ∷ 0x350E ∷ 0x340E ∷ 0x0A ∷ 0x04 ∷ 0 ∷ []) ∷ more ∷ [])
     -- B5 byte B5, then T: frame at 1
     ∷ row One 16 23 (opens (0xB5 ∷ frameT) ∷ steps ∷ []) (ok ∷ (1 ∷ 1 ∷ 0x0A ∷ 0x04 ∷ 1 ∷ 7 ∷ 2 ∷ []) ∷ [])
     -- B6 B5 62 01 02 11 00, then T: only a frame at 6
@@ -114,13 +114,13 @@ abbrev pub portersErrors : List Row
 portersErrors =
     -- draining a whole frame after a wrong sum, and losing a frame inside it
     row One 16 23 (opens (0xB5 ∷ 0x62 ∷ 0x01 ∷ 0x02 ∷ 0x08 ∷ 0x00 ∷ frameT ++ 0x00 ∷ 0x00 ∷ []) ∷ steps ∷ steps ∷ steps ∷ [])
-    (ok ∷ (4 ∷ 0 ∷ 0x0000 ∷ 0x6872 ∷ []) ∷ (1 ∷ 6 ∷ 0x0A ∷ 0x04 ∷ 1 ∷ 12 ∷ 2 ∷ []) ∷ more ∷ [])
+    (ok ∷ (4 ∷ 0 ∷ 0x0000 ∷ 0x6872 ∷ 0x01 ∷ 0x02 ∷ 8 ∷ []) ∷ (1 ∷ 6 ∷ 0x0A ∷ 0x04 ∷ 1 ∷ 12 ∷ 2 ∷ []) ∷ more ∷ [])
     -- refusing n = MAX
     ∷ row One 1 23 (opens frameU ∷ steps ∷ []) (ok ∷ (1 ∷ 0 ∷ 0x01 ∷ 0x02 ∷ 1 ∷ 6 ∷ 3 ∷ []) ∷ [])
     -- testing n + 8 against C for a frame on both sides: n + 2 ≤ 7 < n + 8
     ∷ row One 0 7 (opens (take 7 frameT) ∷ steps ∷ closes ∷ opens (0x34 ∷ []) ∷ steps ∷ []) (ok ∷ more ∷ closed 0 7 0 ∷ ok ∷ (1 ∷ 0 ∷ 0x0A ∷ 0x04 ∷ 0 ∷ 0 ∷ 2 ∷ []) ∷ [])
     -- putting sync or check bytes into the sum: the computed pair is that of 01 02 01 00 AA
-    ∷ row One 16 23 (opens (take 8 frameU ++ 0xBB ∷ []) ∷ steps ∷ []) (ok ∷ (4 ∷ 0 ∷ 0xBBAE ∷ 0xBAAE ∷ []) ∷ [])
+    ∷ row One 16 23 (opens (take 8 frameU ++ 0xBB ∷ []) ∷ steps ∷ []) (ok ∷ (4 ∷ 0 ∷ 0xBBAE ∷ 0xBAAE ∷ 0x01 ∷ 0x02 ∷ 1 ∷ []) ∷ [])
     -- moving the carry where m < C − live: 2 of 9 live bytes are used up, and the chunk's rest goes behind the 9
     ∷ row One 16 23 (opens (0xB5 ∷ 0x62 ∷ 0xB5 ∷ 0x62 ∷ 0x11 ∷ 0x00 ∷ 0x01 ∷ 0x00 ∷ 0xAA ∷ []) ∷ closes ∷ opens (0xBC ∷ 0x02 ∷ 0x07 ∷ []) ∷ steps ∷ shows ∷ [])
     (ok ∷ closed 0 9 0 ∷ ok ∷ (1 ∷ 2 ∷ 0x11 ∷ 0x00 ∷ 0 ∷ 8 ∷ 3 ∷ [])

@@ -31,7 +31,7 @@ frameAt (Rtcm n) p place = RtcmFrame p place
 frameAt (KindSentence i) p place = Sentence p place
 
 abbrev pub taleAt : Tale → ℕ → Answer
-taleAt (TaleWrongSum expect got) p = WrongSum p expect got
+taleAt (TaleWrongSum class id n expect got) p = WrongSum class id n p expect got
 taleAt (TaleNoRoom drain size) p = NoRoom p size
 
 abbrev pub handOut : ℕ → Kind → TakeOut → StepOut

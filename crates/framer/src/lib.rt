@@ -86,6 +86,9 @@ pub enum Answer {
         place: Place,
     },
     WrongSum {
+        class: u8,
+        id: u8,
+        n: usize,
         at: usize,
         expect: u16,
         got: u16,
@@ -488,7 +491,20 @@ fn tale_at(tale: Tale, at: usize) -> Answer
     ensures { λ r. ⌜ r ≡ taleAt tale at ⌝ }
 {
     match tale {
-        Tale::WrongSum { expect, got } => Answer::WrongSum { at, expect, got },
+        Tale::WrongSum {
+            class,
+            id,
+            n,
+            expect,
+            got,
+        } => Answer::WrongSum {
+            class,
+            id,
+            n,
+            at,
+            expect,
+            got,
+        },
         Tale::NoRoom { drain: _, size } => Answer::NoRoom { at, size },
     }
 }

@@ -97,7 +97,10 @@ fn help() {
     say(b"  at P ubx CC II len N           a UBX frame at byte P: class, id, payload length\n");
     say(b"  at P rtcm len N                an RTCM frame, N its message's length\n");
     say(b"  at P nmea len N                a sentence, N its length with CR LF\n");
-    say(b"  at P sum expect XXXX got XXXX  a UBX frame whose sum is wrong\n");
+    say(b"  at P sum expect XXXX got XXXX ubx CC II len N\n");
+    say(
+        b"                                 a UBX frame whose sum is wrong: the sum received, the sum computed\n",
+    );
     say(b"  at P room N                    N bytes that the carry's 16384 do not hold\n\n");
     say(
         b"The first line has mode, MAX and the carry's length; the last the bytes used, kept and lost.\n",
@@ -113,7 +116,7 @@ fn list(fd: i32, name: &[u8], mode: Mode, max: u16) {
     let mut carry = [0u8; 16384];
     let mut chunk = [0u8; 16384];
     let mut out = [0u8; 65536];
-    lister::list(fd, name, mode, max, &mut carry, &mut chunk, &mut out);
+    lister::list(fd, name, mode, max, true, &mut carry, &mut chunk, &mut out);
 }
 
 // The third argument: a file, or `-`.

@@ -2,7 +2,7 @@
 use mathlib.Core.Path.{_≡_, refl}
 use Prim.Native.Nat.{ℕ}
 use Prim.Native.String.{String}
-use mathlib.Core.Bool.{Bool, true, _&&_}
+use mathlib.Core.Bool.{Bool, true, false, _&&_}
 use mathlib.Core.List.{List, [], _∷_, _++_}
 use Rattle.window.specs.declared.Mode.the-variants.{One, Three}
 use Rattle.window.specs.Pick.{pick}
@@ -28,23 +28,25 @@ place len = record { side = Carry; start = 6; len = len }
 abbrev rows : List Row
 rows =
     -- FF then T
-    row (header One 240 247 ++ line 0 (UbxFrame 0x0A 0x04 1 (place 2)) ++ totals 9 0 0) "mode 1 max 240 carry 247\nat 1 ubx 0A 04 len 0\nend used 9 kept 0 lost 0\n"
+    row (header One 240 247 ++ line false 0 (UbxFrame 0x0A 0x04 1 (place 2)) ++ totals 9 0 0) "mode 1 max 240 carry 247\nat 1 ubx 0A 04 len 0\nend used 9 kept 0 lost 0\n"
     -- B4
-    ∷ row (line 0 (WrongSum 0 0x350E 0x340E)) "at 0 sum expect 350E got 340E\n"
+    ∷ row (line false 0 (WrongSum 0x0A 0x04 0 0 0x350E 0x340E)) "at 0 sum expect 350E got 340E\n"
+    ∷ row (line true 0 (WrongSum 0x0A 0x04 0 0 0x350E 0x340E)) "at 0 sum expect 350E got 340E ubx 0A 04 len 0\n"
+    ∷ row (line true 8 (WrongSum 0x01 0xFF 65535 1 0x0000 0xFFFF)) "at 9 sum expect 0000 got FFFF ubx 01 FF len 65535\n"
     -- every other kind of line, with earlier closes
     ∷ row (header Three 65535 16384) "mode 3 max 65535 carry 16384\n"
-    ∷ row (line 16384 (UbxFrame 0x01 0xFF 5 (place 94))) "at 16389 ubx 01 FF len 92\n"
-    ∷ row (line 100 (RtcmFrame 0 (place 1026))) "at 100 rtcm len 1023\n"
-    ∷ row (line 9 (Sentence 1 (place 82))) "at 10 nmea len 82\n"
-    ∷ row (line 0 (NoRoom 7 65537)) "at 7 room 65537\n"
-    ∷ row (line 9 NeedMore) ""
-    ∷ row (line 9 (Refused NotOpen)) ""
+    ∷ row (line false 16384 (UbxFrame 0x01 0xFF 5 (place 94))) "at 16389 ubx 01 FF len 92\n"
+    ∷ row (line false 100 (RtcmFrame 0 (place 1026))) "at 100 rtcm len 1023\n"
+    ∷ row (line false 9 (Sentence 1 (place 82))) "at 10 nmea len 82\n"
+    ∷ row (line false 0 (NoRoom 7 65537)) "at 7 room 65537\n"
+    ∷ row (line false 9 NeedMore) ""
+    ∷ row (line false 9 (Refused NotOpen)) ""
     -- numbers
     ∷ row (decimal 0) "0"
     ∷ row (decimal 10) "10"
     ∷ row (decimal 9999999999) "9999999999"
     ∷ row (decimal 18446744073709551615) "18446744073709551615"
-    ∷ row (line 18446744073709551615 (NoRoom 2 3)) "at 1 room 3\n"
+    ∷ row (line false 18446744073709551615 (NoRoom 2 3)) "at 1 room 3\n"
     ∷ row (hex2 0x9A ++ hex4 0xBCDE ++ hex4 0x00F0) "9ABCDE00F0"
     ∷ []
 

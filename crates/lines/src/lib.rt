@@ -5,12 +5,12 @@ ghost use Prim.Native.Nat.{_+_, _-_, _≤_, _<_};
 ghost use lib.ListN.{length};
 ghost use Rattle.lines.specs.Text.{ascii, Puts};
 ghost use Rattle.lines.specs.Digits.{decimal, hexDigit, hex2, hex4};
-ghost use Rattle.lines.specs.Lines.{modeNo, header, here, ubx, sums, line, totals};
+ghost use Rattle.lines.specs.Lines.{modeNo, header, here, ubx, sums, wrong, line, totals};
 use framer::Answer;
 use window::Mode;
 
-// The longest line: `end used U kept K lost L` with three numbers of 20 digits, and its line end.
-pub const LONGEST: usize = 82;
+// The longest line: `at P sum expect XXXX got XXXX ubx CC II len N` with two numbers of 20 digits, and its line end.
+pub const LONGEST: usize = 84;
 
 // The bytes of a text.
 pub fn text(out: &mut [u8], at: usize, s: &[u8]) -> usize
@@ -103,7 +103,7 @@ fn mode_no(mode: Mode) -> u64
 
 // The first line.
 pub fn header(out: &mut [u8], at: usize, mode: Mode, max: u16, cap: usize) -> usize
-    requires { ⌜ at + 82 ≤ length (now out) ⌝ }
+    requires { ⌜ at + 84 ≤ length (now out) ⌝ }
     ensures { λ r. ⌜ Puts (header mode max cap) (now (out .entry)) at (now (out .exit)) r ⌝ }
 {
     let a = labelled(out, at, b"mode ", mode_no(mode));
@@ -130,22 +130,43 @@ fn ubx(out: &mut [u8], at: usize, class: u8, id: u8, n: u64) -> usize
     sized(out, d, b" len ", n)
 }
 
-// A wrong sum's line behind its position.
+// The two sums behind a position.
 fn sums(out: &mut [u8], at: usize, expect: u16, got: u16) -> usize
-    requires { ⌜ at + 26 ≤ length (now out) ⌝ }
+    requires { ⌜ at + 25 ≤ length (now out) ⌝ }
     ensures { λ r. ⌜ Puts (sums expect got) (now (out .entry)) at (now (out .exit)) r ⌝ }
 {
     let a = text(out, at, b" sum expect ");
     let b = hex4(out, a, expect);
     let c = text(out, b, b" got ");
-    let d = hex4(out, c, got);
-    text(out, d, b"\n")
+    hex4(out, c, got)
 }
 
-// An answer's line, where earlier closes reported `before` bytes as used. Need more and refusals have none.
-pub fn line(out: &mut [u8], at: usize, before: u64, answer: Answer) -> usize
-    requires { ⌜ at + 82 ≤ length (now out) ⌝ }
-    ensures { λ r. ⌜ Puts (line before answer) (now (out .entry)) at (now (out .exit)) r ⌝ }
+// A wrong sum's line behind its position; `named`: with class, id and length of the frame.
+fn wrong(
+    out: &mut [u8],
+    at: usize,
+    named: bool,
+    class: u8,
+    id: u8,
+    n: usize,
+    expect: u16,
+    got: u16,
+) -> usize
+    requires { ⌜ at + 61 ≤ length (now out) ⌝ }
+    ensures { λ r. ⌜ Puts (wrong named class id n expect got) (now (out .entry)) at (now (out .exit)) r ⌝ }
+{
+    let next = sums(out, at, expect, got);
+    if named {
+        return ubx(out, next, class, id, n as u64);
+    }
+    text(out, next, b"\n")
+}
+
+// An answer's line, where earlier closes reported `before` bytes as used. Need more and refusals have none. A wrong sum's has
+// class, id and length of its frame where it is to be `named`.
+pub fn line(out: &mut [u8], at: usize, named: bool, before: u64, answer: Answer) -> usize
+    requires { ⌜ at + 84 ≤ length (now out) ⌝ }
+    ensures { λ r. ⌜ Puts (line named before answer) (now (out .entry)) at (now (out .exit)) r ⌝ }
 {
     match answer {
         Answer::UbxFrame {
@@ -165,9 +186,16 @@ pub fn line(out: &mut [u8], at: usize, before: u64, answer: Answer) -> usize
             let next = here(out, at, before, p);
             sized(out, next, b" nmea len ", place.len as u64)
         }
-        Answer::WrongSum { at: p, expect, got } => {
+        Answer::WrongSum {
+            class,
+            id,
+            n,
+            at: p,
+            expect,
+            got,
+        } => {
             let next = here(out, at, before, p);
-            sums(out, next, expect, got)
+            wrong(out, next, named, class, id, n, expect, got)
         }
         Answer::NoRoom { at: p, size } => {
             let next = here(out, at, before, p);
@@ -180,7 +208,7 @@ pub fn line(out: &mut [u8], at: usize, before: u64, answer: Answer) -> usize
 
 // The last line: used and lost of all closes, kept of the last one.
 pub fn totals(out: &mut [u8], at: usize, used: u64, kept: u64, lost: u64) -> usize
-    requires { ⌜ at + 82 ≤ length (now out) ⌝ }
+    requires { ⌜ at + 84 ≤ length (now out) ⌝ }
     ensures { λ r. ⌜ Puts (totals used kept lost) (now (out .entry)) at (now (out .exit)) r ⌝ }
 {
     let a = labelled(out, at, b"end used ", used);

@@ -19,7 +19,7 @@ use Rattle.lister.proofs.Laws.{no-line, Uses, line-uses}
 -- after so many turns, all of which had a line
 pub record Going (l : Listing) (carry chunk out : List ℕ) (now : Turn) (carryNow outNow : List ℕ) : Type 0 where
   pub text : List ℕ
-  pub lines : Lines (l .used) chunk (l .state) carry text (now .listing .state) carryNow
+  pub lines : Lines (l .named) (l .used) chunk (l .state) carry text (now .listing .state) carryNow
   pub puts : Puts text out (l .waiting) outNow (now .listing .waiting)
   pub listing : now .listing ≡ onward l (now .listing .state) (now .listing .waiting)
   pub within : now .listing .waiting ≤ length out
@@ -30,7 +30,7 @@ module _ (l : Listing) (carry chunk out : List ℕ) (h : l .waiting ≤ length o
   going-starts = record { text = []; lines = noLine; puts = nothing out (l .waiting); listing = refl; within = h; more = refl }
 
   module _ (now : Turn) (c o : List ℕ) (g : Going l carry chunk out now c o) where
-    pub going-full : length out < now .listing .waiting + 82 → Fills l carry chunk out now c o
+    pub going-full : length out < now .listing .waiting + 84 → Fills l carry chunk out now c o
     going-full f = record { text = g .text; says = rw (g .more) (isFull (g .lines)); puts = g .puts; listing = g .listing; within = g .within; full = λ _. f }
 
     module _ (r : Turn) (c′ o′ : List ℕ) (t : Tells (now .listing) c chunk o r c′ o′) (same : length o′ ≡ length out) where
@@ -48,11 +48,12 @@ module _ (l : Listing) (carry chunk out : List ℕ) (h : l .waiting ≤ length o
           ∙ ap (λ (x : Listing). onward x (o₁ .result .state) (r .listing .waiting)) (g .listing)
           ∙ ap (λ (z : State). onward l z (r .listing .waiting)) (sym state)
 
-      puts : Puts (g .text ++ line (l .used) (o₁ .result .answer)) out (l .waiting) o′ (r .listing .waiting)
+      puts : Puts (g .text ++ line (l .named) (l .used) (o₁ .result .answer)) out (l .waiting) o′ (r .listing .waiting)
       unfolding o₁
       puts =
           let used : now .listing .used ≡ l .used = ap (λ (x : Listing). x .used) (g .listing) in
-          behind h (g .puts) (rw used at (t .puts))
+          let named : now .listing .named ≡ l .named = ap (λ (x : Listing). x .named) (g .listing) in
+          behind h (g .puts) (rw (used, named) at (t .puts))
 
       within : r .listing .waiting ≤ length out
       within = fits h puts same
@@ -60,7 +61,7 @@ module _ (l : Listing) (carry chunk out : List ℕ) (h : l .waiting ≤ length o
       pub going-on : r .more ≡ true → Going l carry chunk out r c′ o′
       unfolding o₁
       going-on m = record {
-        text = g .text ++ line (l .used) (o₁ .result .answer);
+        text = g .text ++ line (l .named) (l .used) (o₁ .result .answer);
         lines = rw (state, t .carries) (nextLine (g .lines) (sym (t .goes) ∙ m));
         puts = puts;
         listing = listing;
@@ -75,7 +76,7 @@ module _ (l : Listing) (carry chunk out : List ℕ) (h : l .waiting ≤ length o
           record {
             text = g .text;
             says = rw (state, t .carries, m) (isWhole (g .lines) e);
-            puts = rw (no-line (l .used) (o₁ .result .answer) e, append-nil) at puts;
+            puts = rw (no-line (l .named) (l .used) (o₁ .result .answer) e, append-nil) at puts;
             listing = listing;
             within = within;
             full = λ f. absurd (true≢false (sym f ∙ m));

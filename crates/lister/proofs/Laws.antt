@@ -1,18 +1,19 @@
 -- An answer with a line uses up a byte or more, so a listing gets on.
 use mathlib.Core.Path.{_≡_, refl, sym}
-use mathlib.Core.Bool.{true, false, true≢false}
+use mathlib.Core.Bool.{Bool, true, false, true≢false}
 use Prim.Native.Nat.{ℕ, suc, _+_, _≤_, _<_}
 use native.Mathlib.Omega.{arith}
 use mathlib.Core.List.{List, []}
 use lib.ListN.{length}
 use lib.Dec.{ltb}
-use borrow.Author.Tests.{lt-ltb, le-ltb}
+use borrow.Author.Tests.{lt-ltb, le-ltb, ltb-true, ne-eqb}
 use Rattle.framer.specs.declared.Answer.{Answer, the-variants.{UbxFrame, RtcmFrame, Sentence, WrongSum, NoRoom, NeedMore, Refused}}
 use Rattle.framer.specs.declared.State.{State}
 use Rattle.framer.specs.declared.Leave.{Leave, the-variants.{Granted, Denied}}
 use Rattle.framer.specs.Words.{width}
 use Rattle.framer.specs.Refusals.{mayUse}
 use Rattle.framer.specs.Step.{stepOn, stepFrom, step}
+use Rattle.framer.specs.Answers.{number}
 use Rattle.framer.specs.Reached.{isNeedMore, isRefused}
 use Rattle.framer.proofs.Account.{step-keeps}
 use Rattle.framer.proofs.Granted.{use-granted}
@@ -24,44 +25,32 @@ longer : (at : ℕ) (l : List ℕ) → 0 < length l → ltb at (at + length l) �
 longer at l h = lt-ltb at (at + length l) (omega arith)
 
 -- the bytes that wait become more just where an answer has a line
-pub grows : (before at : ℕ) (a : Answer) → ltb at (at + length (line before a)) ≡ hasLine a
+pub grows : (named : Bool) (before at : ℕ) (a : Answer) → ltb at (at + length (line named before a)) ≡ hasLine a
 unfolding line
-grows before at (UbxFrame class id p place) = longer at (line before (UbxFrame class id p place)) (omega arith)
-grows before at (RtcmFrame p place) = longer at (line before (RtcmFrame p place)) (omega arith)
-grows before at (Sentence p place) = longer at (line before (Sentence p place)) (omega arith)
-grows before at (WrongSum p expect got) = longer at (line before (WrongSum p expect got)) (omega arith)
-grows before at (NoRoom p size) = longer at (line before (NoRoom p size)) (omega arith)
-grows before at NeedMore = le-ltb at (at + 0) (omega arith)
-grows before at (Refused r) = le-ltb at (at + 0) (omega arith)
+grows named before at (UbxFrame class id p place) = longer at (line named before (UbxFrame class id p place)) (omega arith)
+grows named before at (RtcmFrame p place) = longer at (line named before (RtcmFrame p place)) (omega arith)
+grows named before at (Sentence p place) = longer at (line named before (Sentence p place)) (omega arith)
+grows named before at (WrongSum class id n p expect got) = longer at (line named before (WrongSum class id n p expect got)) (omega arith)
+grows named before at (NoRoom p size) = longer at (line named before (NoRoom p size)) (omega arith)
+grows named before at NeedMore = le-ltb at (at + 0) (omega arith)
+grows named before at (Refused r) = le-ltb at (at + 0) (omega arith)
 
 -- and an answer with none adds nothing
-pub no-line : (before : ℕ) (a : Answer) → hasLine a ≡ false → line before a ≡ []
+pub no-line : (named : Bool) (before : ℕ) (a : Answer) → hasLine a ≡ false → line named before a ≡ []
 unfolding line
-no-line before (UbxFrame class id p place) e = absurd (true≢false e)
-no-line before (RtcmFrame p place) e = absurd (true≢false e)
-no-line before (Sentence p place) e = absurd (true≢false e)
-no-line before (WrongSum p expect got) e = absurd (true≢false e)
-no-line before (NoRoom p size) e = absurd (true≢false e)
-no-line before NeedMore e = refl
-no-line before (Refused r) e = refl
+no-line named before (UbxFrame class id p place) e = absurd (true≢false e)
+no-line named before (RtcmFrame p place) e = absurd (true≢false e)
+no-line named before (Sentence p place) e = absurd (true≢false e)
+no-line named before (WrongSum class id n p expect got) e = absurd (true≢false e)
+no-line named before (NoRoom p size) e = absurd (true≢false e)
+no-line named before NeedMore e = refl
+no-line named before (Refused r) e = refl
 
 not-refused : (a : Answer) → hasLine a ≡ true → isRefused a ≡ false
-not-refused (UbxFrame class id p place) e = refl
-not-refused (RtcmFrame p place) e = refl
-not-refused (Sentence p place) e = refl
-not-refused (WrongSum p expect got) e = refl
-not-refused (NoRoom p size) e = refl
-not-refused NeedMore e = refl
-not-refused (Refused r) e = absurd (true≢false (sym e))
+not-refused a e = let h = ltb-true (number a) 6 e in ne-eqb (number a) 7 (λ q. omega arith)
 
 not-need-more : (a : Answer) → hasLine a ≡ true → isNeedMore a ≡ false
-not-need-more (UbxFrame class id p place) e = refl
-not-need-more (RtcmFrame p place) e = refl
-not-need-more (Sentence p place) e = refl
-not-need-more (WrongSum p expect got) e = refl
-not-need-more (NoRoom p size) e = refl
-not-need-more NeedMore e = absurd (true≢false (sym e))
-not-need-more (Refused r) e = refl
+not-need-more a e = let h = ltb-true (number a) 6 e in ne-eqb (number a) 6 (λ q. omega arith)
 
 -- a step with a line uses up a byte or more, of 32,768 at most
 pub record Uses (s t : State) : Type 0 where

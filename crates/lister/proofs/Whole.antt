@@ -17,17 +17,17 @@ use Rattle.lister.proofs.Laws.{Uses, line-uses}
 
 -- ---- runs of lines
 
-join : {before : ℕ} {chunk : List ℕ} {s t u : State} {a b c x y : List ℕ} → Lines before chunk s a x t b → Lines before chunk t b y u c → Lines before chunk s a (x ++ y) u c
+join : {named : Bool} {before : ℕ} {chunk : List ℕ} {s t u : State} {a b c x y : List ℕ} → Lines named before chunk s a x t b → Lines named before chunk t b y u c → Lines named before chunk s a (x ++ y) u c
 join {x = x} p noLine = rw append-nil p
-join {before} {chunk} {x = x} p (nextLine {text} {t} {mid} q e) =
-    rw (← append-assoc x text (line before (step t mid chunk .result .answer))) (nextLine (join p q) e)
+join {named} {before} {chunk} {x = x} p (nextLine {text} {t} {mid} q e) =
+    rw (← append-assoc x text (line named before (step t mid chunk .result .answer))) (nextLine (join p q) e)
 
-full-lines : {before : ℕ} {chunk : List ℕ} {s t : State} {a b x : List ℕ} {more : Bool} → Filled before chunk s a more x t b → more ≡ true → Lines before chunk s a x t b
+full-lines : {named : Bool} {before : ℕ} {chunk : List ℕ} {s t : State} {a b x : List ℕ} {more : Bool} → Filled named before chunk s a more x t b → more ≡ true → Lines named before chunk s a x t b
 full-lines (isFull p) e = p
 full-lines (isWhole p w) e = absurd (true≢false (sym e))
 
-whole-joined : {before : ℕ} {chunk : List ℕ} {s t u : State} {a b c x y : List ℕ} {more : Bool} → Lines before chunk s a x t b → Filled before chunk t b more y u c
-    → more ≡ false → Filled before chunk s a false (x ++ y) u c
+whole-joined : {named : Bool} {before : ℕ} {chunk : List ℕ} {s t u : State} {a b c x y : List ℕ} {more : Bool} → Lines named before chunk s a x t b → Filled named before chunk t b more y u c
+    → more ≡ false → Filled named before chunk s a false (x ++ y) u c
 whole-joined p (isFull q) e = absurd (true≢false e)
 whole-joined p (isWhole q w) e = isWhole (join p q) w
 
@@ -36,7 +36,7 @@ record Gets (s t : State) (text : List ℕ) : Type 0 where
   least : s .used ≤ t .used
   some : 0 < length text → Uses s t
 
-gets : {before : ℕ} {chunk : List ℕ} {s t : State} {a b x : List ℕ} → Lines before chunk s a x t b → Gets s t x
+gets : {named : Bool} {before : ℕ} {chunk : List ℕ} {s t : State} {a b x : List ℕ} → Lines named before chunk s a x t b → Gets s t x
 gets noLine = record { least = omega arith; some = λ h. absurd (omega arith) }
 gets {chunk = chunk} (nextLine {t = t} {mid} p e) =
     let g = gets p in
@@ -60,15 +60,16 @@ less s t waiting (x ∷ xs) g h = let u = g .some (omega arith) in omega (arith,
 -- after so many filled buffers
 pub record Flowing (l : Listing) (carry chunk out : List ℕ) (next : Listing) (carryNow : List ℕ) : Type 0 where
   pub text : List ℕ
-  pub lines : Lines (l .used) chunk (l .state) carry text (next .state) carryNow
+  pub lines : Lines (l .named) (l .used) chunk (l .state) carry text (next .state) carryNow
   pub used : next .used ≡ l .used
   pub kept : next .kept ≡ l .kept
   pub lost : next .lost ≡ l .lost
+  pub named : next .named ≡ l .named
   pub within : next .waiting ≤ length out
 
 module _ (l : Listing) (carry chunk out : List ℕ) where
   pub flowing-starts : l .waiting ≤ length out → Flowing l carry chunk out l carry
-  flowing-starts h = record { text = []; lines = noLine; used = refl; kept = refl; lost = refl; within = h }
+  flowing-starts h = record { text = []; lines = noLine; used = refl; kept = refl; lost = refl; named = refl; within = h }
 
   module _ (next : Listing) (c o : List ℕ) (g : Flowing l carry chunk out next c) (f : Turn) (c′ o′ : List ℕ) (fills : Fills next c chunk o f c′ o′) where
     used : f .listing .used ≡ l .used
@@ -80,11 +81,14 @@ module _ (l : Listing) (carry chunk out : List ℕ) where
     lost : f .listing .lost ≡ l .lost
     lost = ap (λ (x : Listing). x .lost) (fills .listing) ∙ g .lost
 
-    says : Filled (l .used) chunk (next .state) c (f .more) (fills .text) (f .listing .state) c′
-    says = rw (g .used) at (fills .says)
+    named : f .listing .named ≡ l .named
+    named = ap (λ (x : Listing). x .named) (fills .listing) ∙ g .named
+
+    says : Filled (l .named) (l .used) chunk (next .state) c (f .more) (fills .text) (f .listing .state) c′
+    says = rw (g .used, g .named) at (fills .says)
 
     pub flowing-ends : f .more ≡ false → Answers l carry chunk (f .listing) c′
-    flowing-ends e = record { text = g .text ++ fills .text; says = whole-joined (g .lines) says e; used = used; kept = kept; lost = lost }
+    flowing-ends e = record { text = g .text ++ fills .text; says = whole-joined (g .lines) says e; used = used; kept = kept; lost = lost; named = named }
 
     module _ (full : f .more ≡ true) (n : Listing) (e : n ≡ flushed (f .listing) (n .up)) where
       pub flowing-on : Flowing l carry chunk out n c′
@@ -94,10 +98,11 @@ module _ (l : Listing) (carry chunk out : List ℕ) where
         used = rw e used;
         kept = rw e kept;
         lost = rw e lost;
+        named = rw e named;
         within = rw e (omega arith);
       }
 
-      pub flowing-less : 82 ≤ length o → left n < left next
+      pub flowing-less : 84 ≤ length o → left n < left next
       flowing-less room =
           rw e
           (less (next .state) (f .listing .state) (next .waiting) (fills .text) (gets (full-lines says full)) (omega (arith, fills .full full, fills .puts .place)))

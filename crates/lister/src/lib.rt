@@ -10,7 +10,7 @@ use lines::LONGEST;
 use window::Mode;
 
 // Where a listing stands: the parser; used and lost of all closes so far, and kept of the last; how many bytes of lines wait in
-// the buffer; and whether every write so far was taken.
+// the buffer; whether every write so far was taken; and whether the frame of a wrong sum is named.
 pub struct Listing {
     pub state: State,
     pub used: u64,
@@ -18,6 +18,7 @@ pub struct Listing {
     pub lost: u64,
     pub waiting: usize,
     pub up: bool,
+    pub named: bool,
 }
 
 // A listing, and whether it goes on.
@@ -28,14 +29,14 @@ pub struct Turn {
 
 // One step: its line is put behind those that wait, and the listing goes on where there is one.
 fn one(l: Listing, carry: &mut [u8], chunk: &[u8], out: &mut [u8]) -> Turn
-    requires { ⌜ l .waiting + 82 ≤ length (now out) ⌝ }
+    requires { ⌜ l .waiting + 84 ≤ length (now out) ⌝ }
     ensures { λ r. ⌜ Tells l (now (carry .entry)) (now (chunk .entry)) (now (out .entry)) r (now (carry .exit)) (now (out .exit)) ⌝ }
 {
     let from = l.state;
     let stepped = framer::step(from, carry, chunk);
     let answer = stepped.answer;
     let state = stepped.state;
-    let waiting = lines::line(out, l.waiting, l.used, answer);
+    let waiting = lines::line(out, l.waiting, l.named, l.used, answer);
     let listing = Listing {
         state,
         waiting,
@@ -88,7 +89,7 @@ fn flush(l: Listing, out: &[u8]) -> Listing
 
 // The lines of all answers of an opened chunk; those that fill the buffer are written.
 fn answers(l: Listing, carry: &mut [u8], chunk: &[u8], out: &mut [u8]) -> Listing
-    requires { ⌜ (l .waiting ≤ length (now out)) × (82 ≤ length (now out)) ⌝ }
+    requires { ⌜ (l .waiting ≤ length (now out)) × (84 ≤ length (now out)) ⌝ }
     ensures { λ r. ⌜ Answers l (now (carry .entry)) (now (chunk .entry)) r (now (carry .exit)) ⌝ }
     ensures { λ r. ⌜ r .waiting ≤ length (now (out .entry)) ⌝ }
 {
@@ -119,7 +120,7 @@ fn count(l: Listing, closed: Closed) -> Listing
 
 // A chunk: opened, its answers' lines, closed.
 fn through(l: Listing, carry: &mut [u8], chunk: &[u8], out: &mut [u8]) -> Listing
-    requires { ⌜ (l .waiting ≤ length (now out)) × (82 ≤ length (now out)) ⌝ }
+    requires { ⌜ (l .waiting ≤ length (now out)) × (84 ≤ length (now out)) ⌝ }
     ensures { λ r. ⌜ Lists l (now (carry .entry)) (now (chunk .entry)) r (now (carry .exit)) ⌝ }
     ensures { λ r. ⌜ r .waiting ≤ length (now (out .entry)) ⌝ }
 {
@@ -143,7 +144,7 @@ fn read_on(
     chunk: &mut [u8],
     out: &mut [u8],
 ) -> Turn
-    requires { ⌜ (l .waiting ≤ length (now out)) × (82 ≤ length (now out)) ⌝ }
+    requires { ⌜ (l .waiting ≤ length (now out)) × (84 ≤ length (now out)) ⌝ }
     ensures { λ r. ⌜ r .listing .waiting ≤ length (now (out .entry)) ⌝ }
 {
     let got = libc::read(fd, chunk);
@@ -164,8 +165,8 @@ fn read_on(
 
 // Room for one more line: those that wait are written where there is none.
 fn with_room(l: Listing, out: &[u8]) -> Listing
-    requires { ⌜ (l .waiting ≤ length (now out)) × (82 ≤ length (now out)) ⌝ }
-    ensures { λ r. ⌜ r .waiting + 82 ≤ length (now (out .entry)) ⌝ }
+    requires { ⌜ (l .waiting ≤ length (now out)) × (84 ≤ length (now out)) ⌝ }
+    ensures { λ r. ⌜ r .waiting + 84 ≤ length (now (out .entry)) ⌝ }
 {
     if LONGEST <= out.len() - l.waiting {
         return l;
@@ -175,7 +176,7 @@ fn with_room(l: Listing, out: &[u8]) -> Listing
 
 // The last line, and what waits is written.
 fn finish(l: Listing, out: &mut [u8])
-    requires { ⌜ (l .waiting ≤ length (now out)) × (82 ≤ length (now out)) ⌝ }
+    requires { ⌜ (l .waiting ≤ length (now out)) × (84 ≤ length (now out)) ⌝ }
 {
     let last = with_room(l, out);
     let waiting = lines::totals(out, last.waiting, last.used, last.kept, last.lost);
@@ -183,18 +184,19 @@ fn finish(l: Listing, out: &mut [u8])
     flush(whole, out);
 }
 
-// Lists the descriptor's bytes in chunks of at most `chunk`'s length, with `name` for what is told on standard error. Nothing
-// says that an input ends, so the turns are counted down from a number that no run uses up.
+// Lists the descriptor's bytes in chunks of at most `chunk`'s length, with `name` for what is told on standard error; `named`:
+// the frame of a wrong sum is named. Nothing says that an input ends, so the turns are counted down from a number that no run uses up.
 pub fn list(
     fd: i32,
     name: &[u8],
     mode: Mode,
     max: u16,
+    named: bool,
     carry: &mut [u8],
     chunk: &mut [u8],
     out: &mut [u8],
 )
-    requires { ⌜ 82 ≤ length (now out) ⌝ }
+    requires { ⌜ 84 ≤ length (now out) ⌝ }
 {
     let opened = framer::start(carry, mode, max);
     let state = opened.state;
@@ -206,6 +208,7 @@ pub fn list(
         lost: 0,
         waiting,
         up: true,
+        named,
     };
     let mut now = Turn {
         listing,

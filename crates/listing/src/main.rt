@@ -11,6 +11,7 @@ fn main() {
         b"standard input",
         Mode::One,
         240,
+        false,
         &mut carry,
         &mut chunk,
         &mut out,

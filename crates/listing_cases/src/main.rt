@@ -13,7 +13,16 @@ fn list(name: &[u8], mode: Mode, max: u16, carry: &mut [u8], most: usize)
         os::fail(name);
         return;
     }
-    lister::list(fd, name, mode, max, carry, &mut chunk[..most], &mut out);
+    lister::list(
+        fd,
+        name,
+        mode,
+        max,
+        false,
+        carry,
+        &mut chunk[..most],
+        &mut out,
+    );
     libc::close(fd);
 }
 

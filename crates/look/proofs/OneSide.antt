@@ -116,7 +116,7 @@ module _ (s W : List ℕ) (u w : ℕ) (h : Begins s W u w) where
       side-lacks l m = rw (claims l) (settles-not cap (Ubx (getD s 2 0) (getD s 3 0) n) (omega arith))
 
       pub side-judged : n ≤ max → n + 8 ≤ length s → settled cap u W (lookUbx max W)
-          ≡ Say (judgeSum (getD s (6 + n) 0) (getD s (6 + n + 1) 0) (sumOf (take (6 + n - 2) (drop 2 s))) (Ubx (getD s 2 0) (getD s 3 0) n))
+          ≡ Say (judgeSum (getD s (6 + n) 0) (getD s (6 + n + 1) 0) (sumOf (take (6 + n - 2) (drop 2 s))) (getD s 2 0) (getD s 3 0) n)
       side-judged l m =
           rw (claims l) (settles cap (Ubx (getD s 2 0) (getD s 3 0) n) (omega arith))
           ∙ ap Say (judged (getD s 2 0) (getD s 3 0) n (getD s (6 + n) 0) (getD s (6 + n + 1) 0) (sumOf (take (6 + n - 2) (drop 2 s))) W

@@ -47,7 +47,7 @@ module _ (cap : ℕ) (a b : List ℕ) (kind : Kind) where
 
 module _ (class id n a b : ℕ) (got : Sums) (W : List ℕ) (ea : a ≡ getD W (6 + n) 0) (eb : b ≡ getD W (6 + n + 1) 0)
     (es : got ≡ sumOf (take (6 + n - 2) (drop 2 W))) where
-  pub judged : judge (Ubx class id n) W ≡ judgeSum a b got (Ubx class id n)
+  pub judged : judge (Ubx class id n) W ≡ judgeSum a b got class id n
   unfolding judge
   judged =
       let p : 6 + n ≡ n + 6 = omega arith in

@@ -21,18 +21,19 @@ canHand cap u w d t = leb (d + t) w && (not (ltb 0 (u - d) && ltb (u - d) t) || 
 
 -- what is drained with an answer that hands out no bytes
 abbrev pub cost : Tale → ℕ
-cost (WrongSum expect got) = 2
+cost (WrongSum class id n expect got) = 2
 cost (NoRoom drain size) = drain
 
--- the two bytes after the payload, and the sum: a wrong one is told with expect, the received pair, and got, the computed one
-abbrev pub judgeSum : ℕ → ℕ → Sums → Kind → Verdict
-judgeSum a b got kind =
-    pick (eqb a (got .a) && eqb b (got .b)) (Hand kind)
-    (Tell (WrongSum (pairOf a b) (pairOf (got .a) (got .b))))
+-- the two bytes after the payload, and the sum: a wrong one is told with class, id and length of the head, with expect, the received
+-- pair, and got, the computed one
+abbrev pub judgeSum : ℕ → ℕ → Sums → ℕ → ℕ → ℕ → Verdict
+judgeSum a b got class id n =
+    pick (eqb a (got .a) && eqb b (got .b)) (Hand (Ubx class id n))
+    (Tell (WrongSum class id n (pairOf a b) (pairOf (got .a) (got .b))))
 
 -- a frame that can be handed out: of UBX the sum decides, which runs over n + 4 bytes from the class on
 unfoldable pub judge : Kind → List ℕ → Verdict
-judge (Ubx class id n) W = judgeSum (getD W (n + 6) 0) (getD W (n + 7) 0) (sumOf (take (n + 4) (drop 2 W))) (Ubx class id n)
+judge (Ubx class id n) W = judgeSum (getD W (n + 6) 0) (getD W (n + 7) 0) (sumOf (take (n + 4) (drop 2 W))) class id n
 judge (Rtcm n) W = Hand (Rtcm n)
 judge (Sentence i) W = Hand (Sentence i)
 

@@ -42,8 +42,17 @@ pub enum Kind {
 
 // An answer that hands out no bytes.
 pub enum Tale {
-    WrongSum { expect: u16, got: u16 },
-    NoRoom { drain: usize, size: usize },
+    WrongSum {
+        class: u8,
+        id: u8,
+        n: usize,
+        expect: u16,
+        got: u16,
+    },
+    NoRoom {
+        drain: usize,
+        size: usize,
+    },
 }
 
 // What a step says: drain so many and need more; a tale; a frame to hand out.
@@ -111,7 +120,13 @@ pub fn cost(tale: Tale) -> usize
     ensures { λ r. ⌜ r ≡ cost tale ⌝ }
 {
     match tale {
-        Tale::WrongSum { expect: _, got: _ } => UBX_SYNC_SIZE,
+        Tale::WrongSum {
+            class: _,
+            id: _,
+            n: _,
+            expect: _,
+            got: _,
+        } => UBX_SYNC_SIZE,
         Tale::NoRoom { drain, size: _ } => drain,
     }
 }
@@ -144,11 +159,14 @@ fn lacks(cap: usize, w: usize, drain: usize, size: usize) -> Verdict
     Verdict::Wait(0)
 }
 
-// A wrong sum: the received pair, and the computed one.
-fn wrong_sum(a: u8, b: u8, got: Sums) -> Verdict
-    ensures { λ r. ⌜ r ≡ Tell (WrongSum (pairOf a b) (pairOf (got .a) (got .b))) ⌝ }
+// A wrong sum: class, id and length of the head, the received pair, and the computed one.
+fn wrong_sum(class: u8, id: u8, n: usize, a: u8, b: u8, got: Sums) -> Verdict
+    ensures { λ r. ⌜ r ≡ Tell (WrongSum class id n (pairOf a b) (pairOf (got .a) (got .b))) ⌝ }
 {
     let tale = Tale::WrongSum {
+        class,
+        id,
+        n,
         expect: sum::word(a, b),
         got: sum::word(got.a, got.b),
     };
@@ -157,16 +175,13 @@ fn wrong_sum(a: u8, b: u8, got: Sums) -> Verdict
 
 // What the received pair a, b and the computed one say of a UBX frame.
 fn judged(a: u8, b: u8, got: Sums, class: u8, id: u8, n: usize) -> Verdict
-    ensures { λ r. ⌜ r ≡ judgeSum a b got (Ubx class id n) ⌝ }
+    ensures { λ r. ⌜ r ≡ judgeSum a b got class id n ⌝ }
 {
-    if a != got.a {
-        return wrong_sum(a, b, got);
+    if a == got.a && b == got.b {
+        let kind = Kind::Ubx { class, id, n };
+        return Verdict::Hand(kind);
     }
-    if b != got.b {
-        return wrong_sum(a, b, got);
-    }
-    let kind = Kind::Ubx { class, id, n };
-    Verdict::Hand(kind)
+    wrong_sum(class, id, n, a, b, got)
 }
 
 // A whole UBX frame: its sum decides.

@@ -77,11 +77,15 @@ frameWords number p class id place = number ∷ p ∷ class ∷ id ∷ sideNo (p
 abbrev pub plainWords : ℕ → ℕ → ℕ → ℕ → List ℕ
 plainWords number p x y = number ∷ p ∷ x ∷ y ∷ 0 ∷ 0 ∷ 0 ∷ 0 ∷ []
 
+-- the two sums, then class, id and length of the head
+abbrev pub wrongWords : ℕ → ℕ → ℕ → ℕ → ℕ → ℕ → List ℕ
+wrongWords p class id n expect got = 4 ∷ p ∷ expect ∷ got ∷ class ∷ id ∷ n ∷ 0 ∷ []
+
 abbrev pub answerWords : Answer → List ℕ
 answerWords (UbxFrame class id p place) = frameWords 1 p class id place
 answerWords (RtcmFrame p place) = frameWords 2 p 0 0 place
 answerWords (Sentence p place) = frameWords 3 p 0 0 place
-answerWords (WrongSum p expect got) = plainWords 4 p expect got
+answerWords (WrongSum class id n p expect got) = wrongWords p class id n expect got
 answerWords (NoRoom p size) = plainWords 5 p size 0
 answerWords NeedMore = plainWords 6 0 0 0
 answerWords (Refused r) = plainWords 7 0 (refusalNo r) 0

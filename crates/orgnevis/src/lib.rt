@@ -7,7 +7,7 @@ ghost use mathlib.Core.List.{_++_};
 ghost use lib.ListN.{length, drop};
 ghost use Rattle.framer.specs.Refusals.{leaveNo, refusalNo};
 ghost use Rattle.framer.specs.Answers.{sideNo};
-ghost use Rattle.orgnevis.specs.Words.{modeNo, openNo, modeBy, noMode, noState, stateBy, readState, withState, openedWords, steppedWords, closedWords, frameWords, plainWords, answerWords, reportWords};
+ghost use Rattle.orgnevis.specs.Words.{modeNo, openNo, modeBy, noMode, noState, stateBy, readState, withState, openedWords, steppedWords, closedWords, frameWords, plainWords, wrongWords, answerWords, reportWords};
 ghost use Rattle.orgnevis.specs.Calls.{starts, opens, steps, closes, views};
 use framer::Answer;
 use framer::Leave;
@@ -203,13 +203,23 @@ fn write_frame(out: &mut [u64; 8], number: u64, at: u64, class: u64, id: u64, pl
     ];
 }
 
-fn word8(x: u8) -> u64
-    ensures { λ r. ⌜ r ≡ x ⌝ }
+// A wrong sum: its position, the two sums, and class, id and length of the head.
+fn write_wrong(out: &mut [u64; 8], at: usize, class: u8, id: u8, n: usize, expect: u16, got: u16)
+    ensures { λ _. ⌜ now (out .exit) ≡ wrongWords at class id n expect got ⌝ }
 {
-    x as u64
+    *out = [
+        4,
+        at as u64,
+        expect as u64,
+        got as u64,
+        class as u64,
+        id as u64,
+        n as u64,
+        0,
+    ];
 }
 
-fn word16(x: u16) -> u64
+fn word8(x: u8) -> u64
     ensures { λ r. ⌜ r ≡ x ⌝ }
 {
     x as u64
@@ -234,9 +244,14 @@ fn write_answer(answer: Answer, out: &mut [u64; 8])
         } => write_frame(out, 1, word(at), word8(class), word8(id), place),
         Answer::RtcmFrame { at, place } => write_frame(out, 2, word(at), 0, 0, place),
         Answer::Sentence { at, place } => write_frame(out, 3, word(at), 0, 0, place),
-        Answer::WrongSum { at, expect, got } => {
-            write_plain(out, 4, word(at), word16(expect), word16(got))
-        }
+        Answer::WrongSum {
+            class,
+            id,
+            n,
+            at,
+            expect,
+            got,
+        } => write_wrong(out, at, class, id, n, expect, got),
         Answer::NoRoom { at, size } => write_plain(out, 5, word(at), word(size), 0),
         Answer::NeedMore => write_plain(out, 6, 0, 0, 0),
         Answer::Refused(refusal) => write_plain(out, 7, 0, refusal_no(refusal), 0),

@@ -50,7 +50,7 @@ fn say_step(s: State, carry: &mut [u8], chunk: &[u8]) -> State {
     let mut out = [0u8; LONGEST];
     let stepped = framer::step(s, carry, chunk);
     let answer = stepped.answer;
-    let n = lines::line(&mut out, 0, 0, answer);
+    let n = lines::line(&mut out, 0, false, 0, answer);
     say_first(&out, n);
     stepped.state
 }

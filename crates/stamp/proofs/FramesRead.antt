@@ -40,7 +40,7 @@ from-said (ubxFrame class id body) x m =
     (body, ap (λ (y : Payload). ubxFrame (y .class) (y .id) body) (sym e), ap (λ (y : Payload). y .bytes) e)
 from-said (rtcmFrame body) x m = absurd (among-nil m)
 from-said (sentence body) x m = absurd (among-nil m)
-from-said (wrongSum expect got) x m = absurd (among-nil m)
+from-said (wrongSum class id n expect got) x m = absurd (among-nil m)
 from-said (noRoom size) x m = absurd (among-nil m)
 
 from-answers : (answers : List Event) (x : Payload) → Among x (framesIn answers) → (e : Event) × Among e answers × Among x (frameIn (e .said))

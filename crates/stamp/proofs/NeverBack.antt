@@ -70,7 +70,7 @@ told-on : (clock : Clock) (base : ℕ) (sight : Place → List ℕ) (a : Answer)
 told-on clock base sight (UbxFrame class id p place) es = refl
 told-on clock base sight (RtcmFrame p place) es = refl
 told-on clock base sight (Sentence p place) es = refl
-told-on clock base sight (WrongSum p expect got) es = refl
+told-on clock base sight (WrongSum class id n p expect got) es = refl
 told-on clock base sight (NoRoom p size) es = refl
 told-on clock base sight NeedMore es = refl
 told-on clock base sight (AnswerRefused r) es = refl

@@ -79,7 +79,7 @@ abbrev pub frameIn : Said → List Payload
 frameIn (ubxFrame class id body) = record { class = class; id = id; bytes = payloadOf body } ∷ []
 frameIn (rtcmFrame body) = []
 frameIn (sentence body) = []
-frameIn (wrongSum expect got) = []
+frameIn (wrongSum class id n expect got) = []
 frameIn (noRoom size) = []
 
 abbrev pub framesIn : List Event → List Payload

@@ -29,7 +29,7 @@ abbrev pub tells : Clock → (Place → List ℕ) → Answer → News
 tells clock sight (UbxFrame class id p place) = frame (read clock class id (payloadOf (sight place)))
 tells clock sight (RtcmFrame p place) = nothing clock
 tells clock sight (Sentence p place) = nothing clock
-tells clock sight (WrongSum p expect got) = nothing clock
+tells clock sight (WrongSum class id n p expect got) = nothing clock
 tells clock sight (NoRoom p size) = nothing clock
 tells clock sight NeedMore = nothing clock
 tells clock sight (Refused r) = nothing clock

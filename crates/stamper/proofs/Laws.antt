@@ -14,7 +14,7 @@ said-something : (a : Answer) (told : Told) → goesOn (noted a told) ≡ true �
 said-something (UbxFrame class id p place) told e = refl
 said-something (RtcmFrame p place) told e = refl
 said-something (Sentence p place) told e = refl
-said-something (WrongSum p expect got) told e = refl
+said-something (WrongSum class id n p expect got) told e = refl
 said-something (NoRoom p size) told e = refl
 said-something NeedMore told e = absurd (true≢false (sym e))
 said-something (Refused r) told e = absurd (true≢false (sym e))

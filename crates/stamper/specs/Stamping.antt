@@ -36,7 +36,7 @@ abbrev pub noted : Answer → Told → Note
 noted (UbxFrame class id p place) told = frame class id p told
 noted (RtcmFrame p place) told = Passed
 noted (Sentence p place) told = Passed
-noted (WrongSum p expect got) told = Sum
+noted (WrongSum class id n p expect got) told = Sum
 noted (NoRoom p size) told = Passed
 noted NeedMore told = End
 noted (AnswerRefused r) told = End

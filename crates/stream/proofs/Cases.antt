@@ -37,11 +37,11 @@ frame-granted (Sentence i) p place = refl
 
 pub tale-heard : (base p : ℕ) (sight : Place → List ℕ) (t : Tale)
     → (heard base sight (taleAt t p) ≡ record { at = base + p; said = taleSaid t } ∷ []) × (isNeedMore (taleAt t p) ≡ false)
-tale-heard base p sight (WrongSum expect got) = (refl, refl)
+tale-heard base p sight (WrongSum class id n expect got) = (refl, refl)
 tale-heard base p sight (NoRoom drain size) = (refl, refl)
 
 pub tale-granted : (t : Tale) (p : ℕ) → isRefused (taleAt t p) ≡ false
-tale-granted (WrongSum expect got) p = refl
+tale-granted (WrongSum class id n expect got) p = refl
 tale-granted (NoRoom drain size) p = refl
 
 -- ---- what a whole frame's bytes decide: it ends no scan, more bytes do not change it, and it is not no room

@@ -57,7 +57,7 @@ module _ (class id : ℕ) (payload : List ℕ) (a b : ℕ) (rest W : List ℕ) (
       let small : pairOf (low payload) (high payload) ≤ max = rw is h in
       rw bytes-are (ubx-claims max L long refl small ∙ rw is)
 
-  pub judged : judge (Ubx class id n) W ≡ judgeSum a b (sumOf (summed class id payload)) (Ubx class id n)
+  pub judged : judge (Ubx class id n) W ≡ judgeSum a b (sumOf (summed class id payload)) class id n
   unfolding judge behind
   judged =
       let at-a : getD W (n + 6) 0 ≡ a = rw (bytes-are, add-six) (getD-at payload a (b ∷ rest) 0 n refl) in

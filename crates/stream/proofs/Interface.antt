@@ -20,7 +20,7 @@ use Rattle.look.proofs.Rules.{hand-whole}
 use Rattle.stream.specs.Scan.{isWhole, scanMove}
 use Rattle.stream.specs.Interface.{GoodFrame, WrongFrame, Bytes}
 use Rattle.stream.proofs.Framed.{payload-at, whole-in}
-use Rattle.stream.proofs.Said.{frame-said, wrong-said, said-frame, said-wrong}
+use Rattle.stream.proofs.Said.{frame-said, wrong-said, said-frame, said-wrong, wrong-read}
 
 module _ (mode : Mode) (max : ℕ) (W : List ℕ) where
   -- ---- the scan
@@ -31,8 +31,8 @@ module _ (mode : Mode) (max : ℕ) (W : List ℕ) where
   good-fits : (class id : ℕ) (payload : List ℕ) → GoodFrame max W class id payload → isWhole W (Ubx class id (length payload)) ≡ true
   good-fits class id payload g = le-leb _ _ (whole-in class id payload _ _ (g .rest) W (g .stands))
 
-  wrong-fits : (expect got : ℕ) (w : WrongFrame max W expect got) → isWhole W (Ubx (w .class) (w .id) (length (w .payload))) ≡ true
-  wrong-fits expect got w = le-leb _ _ (whole-in (w .class) (w .id) (w .payload) (w .a) (w .b) (w .rest) W (w .stands))
+  wrong-fits : (class id : ℕ) (payload : List ℕ) (expect got : ℕ) → WrongFrame max W class id payload expect got → isWhole W (Ubx class id (length payload)) ≡ true
+  wrong-fits class id payload expect got w = le-leb _ _ (whole-in class id payload (w .a) (w .b) (w .rest) W (w .stands))
 
   pub good-hands : (class id : ℕ) (payload : List ℕ) → GoodFrame max W class id payload → scanMove mode max W ≡ Say (Hand (Ubx class id (length payload)))
   unfolding scanMove
@@ -46,12 +46,22 @@ module _ (mode : Mode) (max : ℕ) (W : List ℕ) where
     λ h. said-frame mode max W (isWhole W) false bytes whole-fits class id payload (h .0) (h .1) .0,
   )
 
-  pub scan-says-wrong : Bytes W → (expect got : ℕ) → WrongFrame max W expect got ↔ (scanMove mode max W ≡ Say (Tell (WrongSum expect got)))
+  pub scan-says-wrong : Bytes W → (class id : ℕ) (payload : List ℕ) (expect got : ℕ)
+      → WrongFrame max W class id payload expect got
+      ↔ ((scanMove mode max W ≡ Say (Tell (WrongSum class id (length payload) expect got))) × (take (length payload) (drop 6 W) ≡ payload))
   unfolding scanMove
-  scan-says-wrong bytes expect got = (
-    λ w. wrong-said mode max W (isWhole W) false expect got w (wrong-fits expect got w),
-    λ h. said-wrong mode max W (isWhole W) false bytes whole-fits expect got h .0,
+  scan-says-wrong bytes class id payload expect got = (
+    λ w. (
+      wrong-said mode max W (isWhole W) false class id payload expect got w (wrong-fits class id payload expect got w),
+      payload-at class id payload _ _ (w .rest) W (w .stands),
+    ),
+    λ h. said-wrong mode max W (isWhole W) false bytes whole-fits class id payload expect got (h .0) (h .1) .0,
   )
+
+  pub wrong-at : Bytes W → (class id n expect got : ℕ) → scanMove mode max W ≡ Say (Tell (WrongSum class id n expect got))
+      → (payload : List ℕ) × WrongFrame max W class id payload expect got × (length payload ≡ n)
+  unfolding scanMove
+  wrong-at bytes = wrong-read mode max W (isWhole W) false bytes whole-fits
 
   -- ---- a step, where the carry has cap bytes and u of the window's lie in it: the hand-out test passes too
 
@@ -74,10 +84,19 @@ module _ (mode : Mode) (max : ℕ) (W : List ℕ) where
       λ h. said-frame mode max W canHandOut (ltb cap (length W)) bytes hand-fits class id payload (h .0) (h .1),
     )
 
-    pub step-says-wrong : Bytes W → (expect got : ℕ)
-        → ((w : WrongFrame max W expect got) × (canHand cap u (length W) 6 (length (w .payload) + 2) ≡ true)) ↔ (stepMove mode max cap u W ≡ Say (Tell (WrongSum expect got)))
+    pub step-says-wrong : Bytes W → (class id : ℕ) (payload : List ℕ) (expect got : ℕ)
+        → (WrongFrame max W class id payload expect got × (canHand cap u (length W) 6 (length payload + 2) ≡ true))
+        ↔ ((stepMove mode max cap u W ≡ Say (Tell (WrongSum class id (length payload) expect got))) × (take (length payload) (drop 6 W) ≡ payload))
     unfolding stepMove
-    step-says-wrong bytes expect got = (
-      λ w. wrong-said mode max W canHandOut (ltb cap (length W)) expect got (w .0) (w .1),
-      λ h. said-wrong mode max W canHandOut (ltb cap (length W)) bytes hand-fits expect got h,
+    step-says-wrong bytes class id payload expect got = (
+      λ w. (
+        wrong-said mode max W canHandOut (ltb cap (length W)) class id payload expect got (w .0) (w .1),
+        payload-at class id payload _ _ (w .0 .rest) W (w .0 .stands),
+      ),
+      λ h. said-wrong mode max W canHandOut (ltb cap (length W)) bytes hand-fits class id payload expect got (h .0) (h .1),
     )
+
+    pub step-wrong-at : Bytes W → (class id n expect got : ℕ) → stepMove mode max cap u W ≡ Say (Tell (WrongSum class id n expect got))
+        → (payload : List ℕ) × WrongFrame max W class id payload expect got × (length payload ≡ n)
+    unfolding stepMove
+    step-wrong-at bytes = wrong-read mode max W canHandOut (ltb cap (length W)) bytes hand-fits

@@ -18,3 +18,4 @@ pub mod NoneLost
 pub mod WeakSpot
 pub mod OnlyGood
 pub mod Smallest
+pub mod Stands

@@ -19,7 +19,7 @@ use Rattle.stream.proofs.Walks.{says, said-at}
 use Rattle.stream.proofs.Modes.{steady-scan}
 use Rattle.stream.proofs.Scans.{scan-walks}
 use Rattle.stream.proofs.Framed.{body-at}
-use Rattle.stream.proofs.Interface.{scan-says-frame, scan-says-wrong}
+use Rattle.stream.proofs.Interface.{scan-says-frame, wrong-at}
 
 -- an answer with a body is a frame's, and one with a pair a wrong sum's
 frame-of : (p : ℕ) (W : List ℕ) (m : Sight) (e : Event) → Among e (says p W m) → (class id : ℕ) (b : List ℕ) → e .said ≡ ubxFrame class id b
@@ -29,7 +29,7 @@ frame-of p W (Say (Wait k)) e a class id b s = absurd (among-nil a)
 frame-of p W (Say (Tell t)) e a class id b s = absurd (no t (sym (ap (λ (x : Event). x .said) (among-one a)) ∙ s))
   where
     no : (t : Tale) → taleSaid t ≡ ubxFrame class id b → ⊥
-    no (WrongSum expect got) h = let z : _≡_ {A = ℕ} 0 1 = cc in omega arith
+    no (WrongSum c i n expect got) h = let z : _≡_ {A = ℕ} 0 1 = cc in omega arith
     no (NoRoom drain size) h = let z : _≡_ {A = ℕ} 0 1 = cc in omega arith
 frame-of p W (Say (Hand kind)) e a class id b s = go kind (sym (ap (λ (x : Event). x .said) (among-one a)) ∙ s)
   where
@@ -42,22 +42,29 @@ frame-of p W (Say (Hand kind)) e a class id b s = go kind (sym (ap (λ (x : Even
     go (Rtcm n) h = let z : _≡_ {A = ℕ} 0 1 = cc in absurd (omega arith)
     go (Sentence i) h = let z : _≡_ {A = ℕ} 0 1 = cc in absurd (omega arith)
 
-wrong-of : (p : ℕ) (W : List ℕ) (m : Sight) (e : Event) → Among e (says p W m) → (expect got : ℕ) → e .said ≡ wrongSum expect got → m ≡ Say (Tell (WrongSum expect got))
-wrong-of p W (Pass y) e a expect got s = absurd (among-nil a)
-wrong-of p W (Say (Wait k)) e a expect got s = absurd (among-nil a)
-wrong-of p W (Say (Tell t)) e a expect got s = go t (sym (ap (λ (x : Event). x .said) (among-one a)) ∙ s)
+wrong-of : (p : ℕ) (W : List ℕ) (m : Sight) (e : Event) → Among e (says p W m) → (class id n expect got : ℕ) → e .said ≡ wrongSum class id n expect got
+    → m ≡ Say (Tell (WrongSum class id n expect got))
+wrong-of p W (Pass y) e a class id n expect got s = absurd (among-nil a)
+wrong-of p W (Say (Wait k)) e a class id n expect got s = absurd (among-nil a)
+wrong-of p W (Say (Tell t)) e a class id n expect got s = go t (sym (ap (λ (x : Event). x .said) (among-one a)) ∙ s)
   where
-    go : (t : Tale) → taleSaid t ≡ wrongSum expect got → Say (Tell t) ≡ Say (Tell (WrongSum expect got))
-    go (WrongSum x y) h = let ex : x ≡ expect = cc in let ey : y ≡ got = cc in rw (ex, ey)
+    go : (t : Tale) → taleSaid t ≡ wrongSum class id n expect got → Say (Tell t) ≡ Say (Tell (WrongSum class id n expect got))
+    go (WrongSum c i m x y) h =
+        let ec : c ≡ class = cc in
+        let ei : i ≡ id = cc in
+        let en : m ≡ n = cc in
+        let ex : x ≡ expect = cc in
+        let ey : y ≡ got = cc in
+        rw (ec, ei, en, ex, ey)
     go (NoRoom drain size) h = let z : _≡_ {A = ℕ} 0 1 = cc in absurd (omega arith)
-wrong-of p W (Say (Hand kind)) e a expect got s = absurd (no kind (sym (ap (λ (x : Event). x .said) (among-one a)) ∙ s))
+wrong-of p W (Say (Hand kind)) e a class id n expect got s = absurd (no kind (sym (ap (λ (x : Event). x .said) (among-one a)) ∙ s))
   where
-    no : (kind : Kind) → frameSaid kind (body kind W) ≡ wrongSum expect got → ⊥
-    no (Ubx class id n) h = let z : _≡_ {A = ℕ} 0 1 = cc in omega arith
-    no (Rtcm n) h = let z : _≡_ {A = ℕ} 0 1 = cc in omega arith
+    no : (kind : Kind) → frameSaid kind (body kind W) ≡ wrongSum class id n expect got → ⊥
+    no (Ubx c i m) h = let z : _≡_ {A = ℕ} 0 1 = cc in omega arith
+    no (Rtcm m) h = let z : _≡_ {A = ℕ} 0 1 = cc in omega arith
     no (Sentence i) h = let z : _≡_ {A = ℕ} 0 1 = cc in omega arith
 
-bytes-on : (W : List ℕ) (k : ℕ) → Bytes W → Bytes (drop k W)
+pub bytes-on : (W : List ℕ) (k : ℕ) → Bytes W → Bytes (drop k W)
 bytes-on W k b i = rw getD-drop (b (k + i))
 
 -- where a UBX frame is handed out, its body is the payload and the checksum of a good frame
@@ -80,9 +87,9 @@ only-good-frames mode max has stream bytes e a class id b s =
     (g .0, subst (λ (i : ℕ). GoodFrame max (drop i stream) class id (g .0)) (sym p) (g .1), f .2 ∙ g .2)
 
 pub only-wrong-sums : OnlyWrongSums
-only-wrong-sums mode max has stream bytes e a expect got s =
+only-wrong-sums mode max has stream bytes e a class id n expect got s =
     let (k, at, m) = said-at (scanMove mode max) (scan-walks mode max has stream .0) e a in
     let p : e .at ≡ k = at ∙ zero-add k in
     let W = drop k stream in
-    let w = scan-says-wrong mode max W (bytes-on stream k bytes) expect got .1 (wrong-of (0 + k) W (scanMove mode max W) e m expect got s) in
-    subst (λ (i : ℕ). WrongFrame max (drop i stream) expect got) (sym p) w
+    let (payload, w, len) = wrong-at mode max W (bytes-on stream k bytes) class id n expect got (wrong-of (0 + k) W (scanMove mode max W) e m class id n expect got s) in
+    (payload, subst (λ (i : ℕ). WrongFrame max (drop i stream) class id payload expect got) (sym p) w, len)

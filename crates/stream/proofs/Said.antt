@@ -27,7 +27,7 @@ use Rattle.stream.proofs.Framed.{claims, judged, payload-at, claimed}
 
 abbrev OfSum : Verdict → Type 0
 OfSum (Wait k) = ⊥
-OfSum (Tell (WrongSum expect got)) = Unit {0}
+OfSum (Tell (WrongSum class id n expect got)) = Unit {0}
 OfSum (Tell (NoRoom drain size)) = ⊥
 OfSum (Hand (Ubx class id n)) = Unit {0}
 OfSum (Hand (Rtcm n)) = ⊥
@@ -48,18 +48,24 @@ tests-false a x b y h = go (eqb a x) refl
     go true e = ne-eqb b y (h (eqb-true a x e))
     go false e = refl
 
-sum-right : (a b : ℕ) (s : Sums) (kind k : Kind) → judgeSum a b s kind ≡ Hand k → (kind ≡ k) × (a ≡ s .a) × (b ≡ s .b)
-sum-right a b s kind k =
-    by-pick (λ v. v ≡ Hand k → (kind ≡ k) × (a ≡ s .a) × (b ≡ s .b))
-    (λ t e. let h = tests-true _ _ t in (let q : kind ≡ k = cc in q, eqb-true a (s .a) (h .0), eqb-true b (s .b) (h .1)))
-    (λ _ e. let z : _≡_ {A = ℕ} 0 1 = cc in absurd (omega arith))
+-- the two sums are one another's, and the head is the one that is named
+module _ (a b : ℕ) (s : Sums) (class id n : ℕ) where
+  sum-right : (k : Kind) → judgeSum a b s class id n ≡ Hand k → (Ubx class id n ≡ k) × (a ≡ s .a) × (b ≡ s .b)
+  sum-right k =
+      by-pick (λ v. v ≡ Hand k → (Ubx class id n ≡ k) × (a ≡ s .a) × (b ≡ s .b))
+      (λ t e. let h = tests-true _ _ t in (let q : Ubx class id n ≡ k = cc in q, eqb-true a (s .a) (h .0), eqb-true b (s .b) (h .1)))
+      (λ _ e. let z : _≡_ {A = ℕ} 0 1 = cc in absurd (omega arith))
 
-sum-wrong : (a b : ℕ) (s : Sums) (kind : Kind) (expect got : ℕ) → judgeSum a b s kind ≡ Tell (WrongSum expect got)
-    → (a ≡ s .a → b ≡ s .b → ⊥) × (expect ≡ pairOf a b) × (got ≡ pairOf (s .a) (s .b))
-sum-wrong a b s kind expect got =
-    by-pick (λ v. v ≡ Tell (WrongSum expect got) → (a ≡ s .a → b ≡ s .b → ⊥) × (expect ≡ pairOf a b) × (got ≡ pairOf (s .a) (s .b)))
-    (λ _ e. let z : _≡_ {A = ℕ} 0 1 = cc in absurd (omega arith))
-    (λ t e. (tests-not a (s .a) b (s .b) t, (let q : expect ≡ pairOf a b = cc in q), (let q : got ≡ pairOf (s .a) (s .b) = cc in q)))
+  sum-wrong : (c i m expect got : ℕ) → judgeSum a b s class id n ≡ Tell (WrongSum c i m expect got)
+      → (a ≡ s .a → b ≡ s .b → ⊥) × (Ubx class id n ≡ Ubx c i m) × (expect ≡ pairOf a b) × (got ≡ pairOf (s .a) (s .b))
+  sum-wrong c i m expect got =
+      by-pick (λ v. v ≡ Tell (WrongSum c i m expect got) → (a ≡ s .a → b ≡ s .b → ⊥) × (Ubx class id n ≡ Ubx c i m) × (expect ≡ pairOf a b) × (got ≡ pairOf (s .a) (s .b)))
+      (λ _ e. let z : _≡_ {A = ℕ} 0 1 = cc in absurd (omega arith))
+      (λ t e.
+      let ec : class ≡ c = cc in
+      let ei : id ≡ i = cc in
+      let en : n ≡ m = cc in
+      (tests-not a (s .a) b (s .b) t, rw (ec, ei, en), (let q : expect ≡ pairOf a b = cc in q), (let q : got ≡ pairOf (s .a) (s .b) = cc in q)))
 
 module _ (fits : Kind → Bool) (over : Bool) (W : List ℕ) where
   abbrev ByClaim : Look → Verdict → Type 0
@@ -90,7 +96,7 @@ module _ (mode : Mode) (max : ℕ) (W : List ℕ) (fits : Kind → Bool) (over :
 
   -- a claim that passes the test is judged
   judges : (class id : ℕ) (payload : List ℕ) (a b : ℕ) (rest : List ℕ) → W ≡ framed class id payload a b ++ rest → length payload ≤ max → fits (Ubx class id (length payload)) ≡ true
-      → move ≡ Say (judgeSum a b (sumOf (summed class id payload)) (Ubx class id (length payload)))
+      → move ≡ Say (judgeSum a b (sumOf (summed class id payload)) class id (length payload))
   unfolding pick
   judges class id payload a b rest stands h t =
       rw (claims class id payload a b rest W stands mode max h, t) (ap Say (judged class id payload a b rest W stands))
@@ -103,14 +109,14 @@ module _ (mode : Mode) (max : ℕ) (W : List ℕ) (fits : Kind → Bool) (over :
       judges class id payload (ck .ckA) (ck .ckB) (g .rest) (g .stands) (g .fits) t
       ∙ rw (eq-eqb _ _ (c .0), eq-eqb _ _ (c .1))
 
-  pub wrong-said : (expect got : ℕ) (w : WrongFrame max W expect got) → fits (Ubx (w .class) (w .id) (length (w .payload))) ≡ true → move ≡ Say (Tell (WrongSum expect got))
+  pub wrong-said : (class id : ℕ) (payload : List ℕ) (expect got : ℕ) → WrongFrame max W class id payload expect got → fits (Ubx class id (length payload)) ≡ true
+      → move ≡ Say (Tell (WrongSum class id (length payload) expect got))
   unfolding pick
-  wrong-said expect got w t =
-      let c = checksum-is (summed (w .class) (w .id) (w .payload)) in
-      let no : (eqb (w .a) (sumOf (summed (w .class) (w .id) (w .payload)) .a) && eqb (w .b) (sumOf (summed (w .class) (w .id) (w .payload)) .b)) ≡ false =
-      tests-false _ _ _ _ (λ e h. w .wrong (e ∙ sym (c .0)) (h ∙ sym (c .1))) in
-      judges (w .class) (w .id) (w .payload) (w .a) (w .b) (w .rest) (w .stands) (w .fits) t
-      ∙ rw (no, w .pair, w .true-pair, c .0, c .1)
+  wrong-said class id payload expect got w t =
+      let c = checksum-is (summed class id payload) in
+      let sum = sumOf (summed class id payload) in
+      let no : (eqb (w .a) (sum .a) && eqb (w .b) (sum .b)) ≡ false = tests-false _ _ _ _ (λ e h. w .wrong (e ∙ sym (c .0)) (h ∙ sym (c .1))) in
+      judges class id payload (w .a) (w .b) (w .rest) (w .stands) (w .fits) t ∙ rw (no, w .pair, w .true-pair, c .0, c .1)
 
   module _ (bytes : Bytes W) (sound : (kind : Kind) → fits kind ≡ true → whole kind ≤ length W) where
     -- what was said was said of a head, a payload and two bytes
@@ -124,7 +130,7 @@ module _ (mode : Mode) (max : ℕ) (W : List ℕ) (fits : Kind → Bool) (over :
       pub stands : W ≡ framed class id payload a b ++ rest
       pub small : length payload ≤ max
       pub passed : fits (Ubx class id (length payload)) ≡ true
-      pub verdict : judgeSum a b (sumOf (summed class id payload)) (Ubx class id (length payload)) ≡ v
+      pub verdict : judgeSum a b (sumOf (summed class id payload)) class id (length payload) ≡ v
 
     said-of : (v : Verdict) → OfSum v → move ≡ Say v → Read v
     said-of v o e =
@@ -143,39 +149,73 @@ module _ (mode : Mode) (max : ℕ) (W : List ℕ) (fits : Kind → Bool) (over :
           verdict = sym (judged class id (c .payload) (c .a) (c .b) (c .rest) W (c .stands)) ∙ rw (c .counts) j;
         }
 
+    -- where the head is the one that is named, and this is the payload behind it, they are what was read
+    module _ (class id : ℕ) (payload : List ℕ) (v : Verdict) (r : Read v) (k : Ubx (r .class) (r .id) (length (r .payload)) ≡ Ubx class id (length payload))
+        (p : take (length payload) (drop 6 W) ≡ payload) where
+      same-length : length (r .payload) ≡ length payload
+      same-length = cc
+
+      same-head : (r .class ≡ class) × (r .id ≡ id)
+      same-head = ((let e : r .class ≡ class = cc in e), (let e : r .id ≡ id = cc in e))
+
+      same-payload : r .payload ≡ payload
+      same-payload = sym (rw same-length at (payload-at (r .class) (r .id) (r .payload) (r .a) (r .b) (r .rest) W (r .stands))) ∙ p
+
+      stood : W ≡ framed class id payload (r .a) (r .b) ++ r .rest
+      stood = rw (same-head .0, same-head .1, same-payload) at (r .stands)
+
+      fitted : length payload ≤ max
+      fitted = rw (← same-length) (r .small)
+
+      passed-on : fits (Ubx class id (length payload)) ≡ true
+      passed-on = rw (same-head .0, same-head .1, same-length) at (r .passed)
+
+      summed-is : summed (r .class) (r .id) (r .payload) ≡ summed class id payload
+      summed-is = rw (same-head .0, same-head .1, same-payload)
+
     pub said-frame : (class id : ℕ) (payload : List ℕ) → move ≡ Say (Hand (Ubx class id (length payload))) → take (length payload) (drop 6 W) ≡ payload
         → GoodFrame max W class id payload × (fits (Ubx class id (length payload)) ≡ true)
     said-frame class id payload e p =
-        let r = said-of (Hand (Ubx class id (length payload))) tt e in
-        let j = sum-right (r .a) (r .b) (sumOf (summed (r .class) (r .id) (r .payload))) (Ubx (r .class) (r .id) (length (r .payload))) (Ubx class id (length payload)) (r .verdict) in
-        let k : Ubx (r .class) (r .id) (length (r .payload)) ≡ Ubx class id (length payload) = j .0 in
-        let ec : r .class ≡ class = cc in
-        let ei : r .id ≡ id = cc in
-        let el : length (r .payload) ≡ length payload = cc in
-        let ep : r .payload ≡ payload = sym (rw el at (payload-at (r .class) (r .id) (r .payload) (r .a) (r .b) (r .rest) W (r .stands))) ∙ p in
-        let c = checksum-is (summed (r .class) (r .id) (r .payload)) in
-        let ea : r .a ≡ checksum (summed class id payload) .ckA = rw (ec, ei, ep) at (j .1 ∙ sym (c .0)) in
-        let eb : r .b ≡ checksum (summed class id payload) .ckB = rw (ec, ei, ep) at (j .2 ∙ sym (c .1)) in
-        (record { fits = rw (← el) (r .small); rest = r .rest; stands = rw (ec, ei, ep, ea, eb) at (r .stands) }, rw (ec, ei, el) at (r .passed))
+        let v = Hand (Ubx class id (length payload)) in
+        let r = said-of v tt e in
+        let j = sum-right (r .a) (r .b) (sumOf (summed (r .class) (r .id) (r .payload))) (r .class) (r .id) (length (r .payload)) (Ubx class id (length payload)) (r .verdict) in
+        let is = summed-is class id payload v r (j .0) p in
+        let c = checksum-is (summed class id payload) in
+        let ea : r .a ≡ checksum (summed class id payload) .ckA = rw is at (j .1) ∙ sym (c .0) in
+        let eb : r .b ≡ checksum (summed class id payload) .ckB = rw is at (j .2) ∙ sym (c .1) in (
+          record { fits = fitted class id payload v r (j .0) p; rest = r .rest; stands = rw (ea, eb) at (stood class id payload v r (j .0) p) },
+          passed-on class id payload v r (j .0) p,
+        )
 
-    pub said-wrong : (expect got : ℕ) → move ≡ Say (Tell (WrongSum expect got))
-        → (w : WrongFrame max W expect got) × (fits (Ubx (w .class) (w .id) (length (w .payload))) ≡ true)
-    said-wrong expect got e =
-        let r = said-of (Tell (WrongSum expect got)) tt e in
-        let c = checksum-is (summed (r .class) (r .id) (r .payload)) in
-        let j = sum-wrong (r .a) (r .b) (sumOf (summed (r .class) (r .id) (r .payload))) (Ubx (r .class) (r .id) (length (r .payload))) expect got (r .verdict) in (
+    pub said-wrong : (class id : ℕ) (payload : List ℕ) (expect got : ℕ) → move ≡ Say (Tell (WrongSum class id (length payload) expect got))
+        → take (length payload) (drop 6 W) ≡ payload
+        → WrongFrame max W class id payload expect got × (fits (Ubx class id (length payload)) ≡ true)
+    said-wrong class id payload expect got e p =
+        let v = Tell (WrongSum class id (length payload) expect got) in
+        let r = said-of v tt e in
+        let j = sum-wrong (r .a) (r .b) (sumOf (summed (r .class) (r .id) (r .payload))) (r .class) (r .id) (length (r .payload)) class id (length payload) expect got (r .verdict) in
+        let is = summed-is class id payload v r (j .1) p in
+        let c = checksum-is (summed class id payload) in (
           record {
-            class = r .class;
-            id = r .id;
-            payload = r .payload;
             a = r .a;
             b = r .b;
             rest = r .rest;
-            fits = r .small;
-            stands = r .stands;
-            wrong = λ p q. j .0 (p ∙ c .0) (q ∙ c .1);
-            pair = j .1;
-            true-pair = j .2 ∙ rw (c .0, c .1);
+            fits = fitted class id payload v r (j .1) p;
+            stands = stood class id payload v r (j .1) p;
+            wrong = λ x y. j .0 (x ∙ c .0 ∙ rw is) (y ∙ c .1 ∙ rw is);
+            pair = j .2;
+            true-pair = j .3 ∙ rw (is, c .0, c .1);
           },
-          r .passed,
+          passed-on class id payload v r (j .1) p,
         )
+
+    -- what is said to have a wrong sum has a payload as long as is said
+    pub wrong-read : (class id n expect got : ℕ) → move ≡ Say (Tell (WrongSum class id n expect got))
+        → (payload : List ℕ) × WrongFrame max W class id payload expect got × (length payload ≡ n)
+    wrong-read class id n expect got e =
+        let r = said-of (Tell (WrongSum class id n expect got)) tt e in
+        let j = sum-wrong (r .a) (r .b) (sumOf (summed (r .class) (r .id) (r .payload))) (r .class) (r .id) (length (r .payload)) class id n expect got (r .verdict) in
+        let k : Ubx (r .class) (r .id) (length (r .payload)) ≡ Ubx class id n = j .1 in
+        let len : length (r .payload) ≡ n = cc in
+        let p = payload-at (r .class) (r .id) (r .payload) (r .a) (r .b) (r .rest) W (r .stands) in
+        (r .payload, said-wrong class id (r .payload) expect got (rw len e) p .0, len)

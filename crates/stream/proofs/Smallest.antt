@@ -91,7 +91,7 @@ rtcm-of p W (Say (Wait k)) e a b s = absurd (among-nil a)
 rtcm-of p W (Say (Tell t)) e a b s = absurd (no t (sym (ap (λ (x : Event). x .said) (among-one a)) ∙ s))
   where
     no : (t : Tale) → taleSaid t ≡ rtcmFrame b → ⊥
-    no (WrongSum expect got) h = let z : _≡_ {A = ℕ} 0 1 = cc in omega arith
+    no (WrongSum class id n expect got) h = let z : _≡_ {A = ℕ} 0 1 = cc in omega arith
     no (NoRoom drain size) h = let z : _≡_ {A = ℕ} 0 1 = cc in omega arith
 rtcm-of p W (Say (Hand kind)) e a b s = go kind (sym (ap (λ (x : Event). x .said) (among-one a)) ∙ s)
   where

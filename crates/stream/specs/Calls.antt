@@ -65,7 +65,7 @@ abbrev pub heard : ℕ → (Place → List ℕ) → Answer → List Event
 heard base sight (UbxFrame class id p place) = record { at = base + p; said = ubxFrame class id (sight place) } ∷ []
 heard base sight (RtcmFrame p place) = record { at = base + p; said = rtcmFrame (sight place) } ∷ []
 heard base sight (Sentence p place) = record { at = base + p; said = sentence (sight place) } ∷ []
-heard base sight (WrongSum p expect got) = record { at = base + p; said = wrongSum expect got } ∷ []
+heard base sight (WrongSum class id n p expect got) = record { at = base + p; said = wrongSum class id n expect got } ∷ []
 heard base sight (NoRoom p size) = record { at = base + p; said = noRoom size } ∷ []
 heard base sight NeedMore = []
 heard base sight (Refused r) = []

@@ -33,7 +33,7 @@ abbrev pub isNoRoom : Said → Bool
 isNoRoom (ubxFrame class id body) = false
 isNoRoom (rtcmFrame body) = false
 isNoRoom (sentence body) = false
-isNoRoom (wrongSum expect got) = false
+isNoRoom (wrongSum class id n expect got) = false
 isNoRoom (noRoom size) = true
 
 abbrev pub NeverNoRoom : List Event → Type 0

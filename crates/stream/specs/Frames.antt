@@ -1,9 +1,13 @@
 -- The interface description's frames in a scan: no good frame is lost, and none but a good one is handed out.
 use mathlib.Core.Path.{_≡_}
-use Prim.Native.Nat.{ℕ, _+_, _≤_, _<_}
+use Prim.Native.Nat.{ℕ, _+_, _-_, _≤_, _<_}
 use mathlib.Core.List.{List, [], _∷_, _++_, List·Memᴰ as Among}
 use lib.ListN.{length, getD, drop}
 use Rattle.window.specs.declared.Mode.{Mode, the-variants.{One}}
+use Rattle.framer.specs.declared.State.{State}
+use Rattle.framer.specs.declared.Answer.the-variants.{WrongSum}
+use Rattle.framer.specs.Words.{window}
+use Rattle.framer.specs.Step.{step}
 use Rattle.stream.specs.Scan.{Said, ubxFrame, rtcmFrame, sentence, wrongSum, noRoom, Event, scan, HasScan}
 use Rattle.stream.specs.Interface.{checksum, summed, frame, GoodFrame, WrongFrame, Bytes}
 
@@ -12,7 +16,7 @@ abbrev pub span : Said → ℕ
 span (ubxFrame class id body) = 6 + length body
 span (rtcmFrame body) = length body
 span (sentence body) = length body
-span (wrongSum expect got) = 0
+span (wrongSum class id n expect got) = 0
 span (noRoom size) = 0
 
 -- the answer that hands out a frame at p; the body is payload and two check bytes
@@ -46,7 +50,8 @@ AnyBytesWithoutB5 =
     (max : ℕ) (noise : List ℕ) → ((k : ℕ) → getD noise k 0 ≡ 0xB5 → ⊥) → (class id : ℕ) (payload rest : List ℕ) → length payload ≤ max
     → Among (handOut (length noise) class id payload) (scan One max (noise ++ (frame class id payload ++ rest)) .answers)
 
--- every UBX frame that is handed out is a good one that stands there, and every wrong sum is one that stands there, with the true pair
+-- every UBX frame that is handed out is a good one that stands there, and every wrong sum is one that stands there: class, id and
+-- length are its head's, and the pair is the true one
 abbrev pub OnlyGoodFrames : Type 0
 OnlyGoodFrames =
     (mode : Mode) (max : ℕ) → HasScan mode → (stream : List ℕ) → Bytes stream → (e : Event) → Among e (scan mode max stream .answers) → (class id : ℕ) (body : List ℕ)
@@ -54,5 +59,14 @@ OnlyGoodFrames =
 
 abbrev pub OnlyWrongSums : Type 0
 OnlyWrongSums =
-    (mode : Mode) (max : ℕ) → HasScan mode → (stream : List ℕ) → Bytes stream → (e : Event) → Among e (scan mode max stream .answers) → (expect got : ℕ)
-    → e .said ≡ wrongSum expect got → WrongFrame max (drop (e .at) stream) expect got
+    (mode : Mode) (max : ℕ) → HasScan mode → (stream : List ℕ) → Bytes stream → (e : Event) → Among e (scan mode max stream .answers) → (class id n expect got : ℕ)
+    → e .said ≡ wrongSum class id n expect got
+    → (payload : List ℕ) × WrongFrame max (drop (e .at) stream) class id payload expect got × (length payload ≡ n)
+
+-- and so in a step, in every mode and from every state: what a wrong sum names stands in the window, at the answer's position
+abbrev pub WrongSumsStand : Type 0
+WrongSumsStand =
+    (s : State) (carry chunk : List ℕ) → Bytes (window s carry chunk) → (class id n p expect got : ℕ)
+    → step s carry chunk .result .answer ≡ WrongSum class id n p expect got
+    → (s .used ≤ p)
+    × (payload : List ℕ) × WrongFrame (s .max) (drop (p - s .used) (window s carry chunk)) class id payload expect got × (length payload ≡ n)

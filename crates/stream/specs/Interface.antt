@@ -54,10 +54,7 @@ pub record GoodFrame (max : ℕ) (W : List ℕ) (class id : ℕ) (payload : List
   pub stands : W ≡ frame class id payload ++ rest
 
 -- a whole head with a length of at most max, as many bytes and two more, which are not the checksum: the pair received, and the true one
-pub record WrongFrame (max : ℕ) (W : List ℕ) (received computed : ℕ) : Type 0 where
-  pub class : ℕ
-  pub id : ℕ
-  pub payload : List ℕ
+pub record WrongFrame (max : ℕ) (W : List ℕ) (class id : ℕ) (payload : List ℕ) (received computed : ℕ) : Type 0 where
   pub a : ℕ
   pub b : ℕ
   pub rest : List ℕ

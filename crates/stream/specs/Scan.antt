@@ -20,8 +20,8 @@ pub data Said : Type 0 where
   ubxFrame : ℕ → ℕ → List ℕ → Said
   rtcmFrame : List ℕ → Said
   sentence : List ℕ → Said
-  -- expect and got
-  wrongSum : ℕ → ℕ → Said
+  -- class, id and length, expect and got
+  wrongSum : ℕ → ℕ → ℕ → ℕ → ℕ → Said
   -- the size there is no room for
   noRoom : ℕ → Said
 
@@ -35,7 +35,7 @@ frameSaid (Rtcm n) body = rtcmFrame body
 frameSaid (Sentence i) body = sentence body
 
 abbrev pub taleSaid : Tale → Said
-taleSaid (WrongSum expect got) = wrongSum expect got
+taleSaid (WrongSum class id n expect got) = wrongSum class id n expect got
 taleSaid (NoRoom drain size) = noRoom size
 
 -- ---- what stands at one position, where W is the stream from there on

@@ -31,6 +31,10 @@ pub trait Rules {
     fn drained_at_wrong_sum(&self, _n: usize) -> usize {
         2
     }
+    /// Which message had the wrong sum: class, id and length.
+    fn head_named(&self, class: u64, id: u64, n: u64) -> [u64; 3] {
+        [class, id, n]
+    }
     /// "expect = received a + 256 × received b, and got = the same of the computed pair"
     fn expect_and_got(&self, received: u64, computed: u64) -> (u64, u64) {
         (received, computed)
@@ -152,7 +156,7 @@ enum Sight {
     Pass { drained: usize },
     Wait { drained: usize },
     Frame { kind: u64, class: u64, id: u64, drained: usize, taken: usize },
-    WrongSum { expect: u64, got: u64, drained: usize },
+    WrongSum { head: [u64; 3], expect: u64, got: u64, drained: usize },
     NoRoom { size: usize, drained: usize },
 }
 
@@ -277,13 +281,15 @@ impl Model {
         if !self.hands_out(state, window, 6, n + 2) {
             return self.no_room(state, w, self.rules.no_room_size(n), 2);
         }
+        let (class, id) = (u64::from(window.at(2)), u64::from(window.at(3)));
         let received = window.little_endian(n + 6);
         let computed = fletcher(self.rules.summed(n).map(|i| window.at(i)));
         if received != computed {
             let (expect, got) = self.rules.expect_and_got(received, computed);
-            return Sight::WrongSum { expect, got, drained: self.rules.drained_at_wrong_sum(n) };
+            let head = self.rules.head_named(class, id, n as u64);
+            let drained = self.rules.drained_at_wrong_sum(n);
+            return Sight::WrongSum { head, expect, got, drained };
         }
-        let (class, id) = (u64::from(window.at(2)), u64::from(window.at(3)));
         Sight::Frame { kind: UBX_FRAME, class, id, drained: 6, taken: n + 2 }
     }
 
@@ -358,8 +364,9 @@ impl Model {
                 out[0] = NEED_MORE;
                 out[1] = 0;
             }
-            Sight::WrongSum { expect, got, .. } => {
+            Sight::WrongSum { head, expect, got, .. } => {
                 (out[0], out[2], out[3]) = (WRONG_SUM, expect, got);
+                out[4..7].copy_from_slice(&head);
             }
             Sight::NoRoom { size, .. } => (out[0], out[2]) = (NO_ROOM, size as u64),
             Sight::Frame { kind, class, id, taken, .. } => {

@@ -97,7 +97,11 @@ fn step_granted(state: &mut State, lent: &mut Lent, out: &mut [u64]) {
         Said::Rtcm(body) => whole(RTCM_FRAME, sync_byte(body.length as u64), lent, body),
         Said::Sentence(body) => whole(SENTENCE, sync_byte(body.length as u64), lent, body),
         Said::WrongSum { expect, got } => {
-            [WRONG_SUM, sync_byte(2), expect.into(), got.into(), 0, 0, 0, 0]
+            // The Rust has the two sums alone; class, id and length are the window's own bytes at the
+            // head, whose first two bytes are the last ones drained.
+            let head = |i: u64| u64::from(byte_of_window(&before, lent, gone - 2 + i));
+            let n = head(4) + 256 * head(5);
+            [WRONG_SUM, sync_byte(2), expect.into(), got.into(), head(2), head(3), n, 0]
         }
         Said::NoRoom(size) => {
             // The last byte drained is 62 behind B5, or the one sync byte.

@@ -64,6 +64,12 @@ wrong_versions! {
     SwapsSums: "swaps expect and got" {
         fn expect_and_got(&self, received: u64, computed: u64) -> (u64, u64) { (computed, received) }
     }
+    NamesIdFirst: "names a wrong sum's id before its class" {
+        fn head_named(&self, class: u64, id: u64, n: u64) -> [u64; 3] { [id, class, n] }
+    }
+    NamesBody: "names a wrong sum's length as n + 2" {
+        fn head_named(&self, class: u64, id: u64, n: u64) -> [u64; 3] { [class, id, n + 2] }
+    }
     SaysEight: "says no room with size n + 8" {
         fn no_room_size(&self, n: usize) -> usize { n + 8 }
     }

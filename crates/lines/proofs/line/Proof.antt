@@ -51,8 +51,8 @@ enum-known-answer-4 c = search needs
 here-requires-4 : tie.Need-here-requires-4
 here-requires-4 c κs = search needs
 
-sums-requires : tie.Need-sums-requires
-sums-requires c κs = search needs
+wrong-requires : tie.Need-wrong-requires
+wrong-requires c κs = search needs
 
 enum-known-answer-5 : tie.Need-enum-known-answer-5
 enum-known-answer-5 c = search needs
@@ -98,7 +98,7 @@ same-length-4 c = search needs
 
 returns-4 : tie.Need-returns-4
 unfolding line
-returns-4 c = rw (c .before .before .before .before .before .before .before .before .before .answer4 .given .1) (behind (omega (arith, c .before .before .before .before .before .before .before .before .before .before .before .before .pre)) (c .before .before .before .before .before .before .here4 .ensures .0) (c .before .before .sums .ensures))
+returns-4 c = rw (c .before .before .before .before .before .before .before .before .before .answer4 .given .1) (behind (omega (arith, c .before .before .before .before .before .before .before .before .before .before .before .before .pre)) (c .before .before .before .before .before .before .here4 .ensures .0) (c .before .before .wrong .ensures))
 
 same-length-5 : tie.Need-same-length-5
 same-length-5 c = search needs
@@ -134,7 +134,7 @@ line-spec =
     sized-requires-2
     enum-known-answer-4
     here-requires-4
-    sums-requires
+    wrong-requires
     enum-known-answer-5
     here-requires-5
     slice-aggregate-sized-3

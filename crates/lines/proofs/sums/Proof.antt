@@ -25,20 +25,13 @@ text-requires-2 c κs = search needs
 hex4-requires-2 : tie.Need-hex4-requires-2
 hex4-requires-2 c κs = search needs
 
-slice-aggregate-text-3 : tie.Need-slice-aggregate-text-3
-slice-aggregate-text-3 c = search needs
-
-text-requires-3 : tie.Need-text-requires-3
-text-requires-3 c κs = search needs
-
 same-length : tie.Need-same-length
 same-length c = search needs
 
 returns : tie.Need-returns
 returns c =
-    let x = c .before .before .before .before .before .before .before .before .before .before .before .before .before .before .before .before .before .before .before .before .before .before .before .before .args in
-    let room : x .at ≤ length (x .out .now) = omega (arith, c .before .before .before .before .before .before .before .before .before .before .before .before .before .before .before .before .before .before .before .before .before .before .before .before .pre) in
-    behind room (behind room (behind room (behind room (c .before .before .before .before .before .before .before .before .before .before .before .before .before .before .before .before .before .before .before .before .text .ensures) (c .before .before .before .before .before .before .before .before .before .before .before .before .before .before .before .before .hex4 .ensures)) (c .before .before .before .before .before .before .before .before .before .before .before .text2 .ensures)) (c .before .before .before .before .before .before .before .hex42 .ensures)) (c .before .before .text3 .ensures)
+    let room : c .before .before .before .before .before .before .before .before .before .before .before .before .before .before .before .before .before .before .before .args .at ≤ length (c .before .before .before .before .before .before .before .before .before .before .before .before .before .before .before .before .before .before .before .args .out .now) = omega (arith, c .before .before .before .before .before .before .before .before .before .before .before .before .before .before .before .before .before .before .before .pre) in
+    behind room (behind room (behind room (c .before .before .before .before .before .before .before .before .before .before .before .before .before .before .before .text .ensures) (c .before .before .before .before .before .before .before .before .before .before .before .hex4 .ensures)) (c .before .before .before .before .before .before .text2 .ensures)) (c .before .before .hex42 .ensures)
 
 pub sums-spec : {M : Type 1} → statement M
 sums-spec =
@@ -50,7 +43,5 @@ sums-spec =
     slice-aggregate-text-2
     text-requires-2
     hex4-requires-2
-    slice-aggregate-text-3
-    text-requires-3
     same-length
     returns)

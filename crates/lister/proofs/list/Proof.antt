@@ -10,10 +10,10 @@ use Rattle.lister.proofs.list.Statement.{statement}
 use Rattle.lister.proofs.list.Tie as tie
 
 abbrev Inv-loop : tie.InvT-loop
-Inv-loop fd name max carry₀ chunk₀ out₀ waiting now₀ turns₀ carry chunk out now turns = (now .listing .waiting ≤ length out) × ((length out ≡ length out₀) × ((length carry ≡ length carry₀) × (length chunk ≡ length chunk₀)))
+Inv-loop fd name max named carry₀ chunk₀ out₀ waiting now₀ turns₀ carry chunk out now turns = (now .listing .waiting ≤ length out) × ((length out ≡ length out₀) × ((length carry ≡ length carry₀) × (length chunk ≡ length chunk₀)))
 
 abbrev μ-loop : tie.MeasureT-loop
-μ-loop fd name max carry₀ chunk₀ out₀ waiting now₀ turns₀ carry chunk out now turns = turns
+μ-loop fd name max named carry₀ chunk₀ out₀ waiting now₀ turns₀ carry chunk out now turns = turns
 
 start-requires : tie.Need-start-requires Inv-loop μ-loop
 start-requires c κs = search needs

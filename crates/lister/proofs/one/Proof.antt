@@ -5,7 +5,6 @@ use lib.Dec.{ltb}
 use Rattle.framer.specs.Step.{step}
 use Rattle.framer.proofs.Determined.{steps-is}
 use Rattle.lister.proofs.Laws.{grows}
--- `lister::one` meets its contract.
 use borrow.Author.Needs.{needs}
 use Rattle.lister.proofs.one.Statement.{statement}
 use Rattle.lister.proofs.one.Tie as tie
@@ -32,7 +31,7 @@ returns c =
       listing = rw (e .0);
       carries = e .1;
       puts = p;
-      goes = ap (λ (n : ℕ). ltb (x .l .waiting) n) (p .place) ∙ grows (x .l .used) (x .l .waiting) (o .result .answer);
+      goes = ap (λ (n : ℕ). ltb (x .l .waiting) n) (p .place) ∙ grows (x .l .named) (x .l .used) (x .l .waiting) (o .result .answer);
     }
 
 pub one-spec : {M : Type 1} → statement M

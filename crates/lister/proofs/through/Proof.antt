@@ -42,6 +42,7 @@ returns c =
         used = rw (c .count .ensures, e .0, a .ensures .0 .used);
         kept = rw (c .count .ensures, e .0);
         lost = rw (c .count .ensures, e .0, a .ensures .0 .lost);
+        named = rw (c .count .ensures, a .ensures .0 .named);
         carries = e .1;
       },
       rw (c .count .ensures) (omega (arith, a .ensures .1)),

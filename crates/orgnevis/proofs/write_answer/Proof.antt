@@ -40,35 +40,26 @@ write-frame-requires-3 c κs = search needs
 enum-known-answer-4 : tie.Need-enum-known-answer-4
 enum-known-answer-4 c = search needs
 
-word-requires-4 : tie.Need-word-requires-4
-word-requires-4 c κs = search needs
-
-word16-requires : tie.Need-word16-requires
-word16-requires c κs = search needs
-
-word16-requires-2 : tie.Need-word16-requires-2
-word16-requires-2 c κs = search needs
-
-write-plain-requires : tie.Need-write-plain-requires
-write-plain-requires c κs = search needs
+write-wrong-requires : tie.Need-write-wrong-requires
+write-wrong-requires c κs = search needs
 
 enum-known-answer-5 : tie.Need-enum-known-answer-5
 enum-known-answer-5 c = search needs
 
+word-requires-4 : tie.Need-word-requires-4
+word-requires-4 c κs = search needs
+
 word-requires-5 : tie.Need-word-requires-5
 word-requires-5 c κs = search needs
 
-word-requires-6 : tie.Need-word-requires-6
-word-requires-6 c κs = search needs
-
-write-plain-requires-2 : tie.Need-write-plain-requires-2
-write-plain-requires-2 c κs = search needs
+write-plain-requires : tie.Need-write-plain-requires
+write-plain-requires c κs = search needs
 
 enum-told : tie.Need-enum-told
 enum-told c = search needs
 
-write-plain-requires-3 : tie.Need-write-plain-requires-3
-write-plain-requires-3 c κs = search needs
+write-plain-requires-2 : tie.Need-write-plain-requires-2
+write-plain-requires-2 c κs = search needs
 
 enum-known-answer-6 : tie.Need-enum-known-answer-6
 enum-known-answer-6 c = search needs
@@ -76,8 +67,8 @@ enum-known-answer-6 c = search needs
 refusal-no-requires : tie.Need-refusal-no-requires
 refusal-no-requires c κs = search needs
 
-write-plain-requires-4 : tie.Need-write-plain-requires-4
-write-plain-requires-4 c κs = search needs
+write-plain-requires-3 : tie.Need-write-plain-requires-3
+write-plain-requires-3 c κs = search needs
 
 returns : tie.Need-returns
 returns c = c .write-frame .ensures ∙ rw (c .before .before .before .before .before .before .answer .given .1, c .before .before .before .word .ensures, c .before .before .word8 .ensures, c .before .word82 .ensures)
@@ -89,16 +80,16 @@ returns-3 : tie.Need-returns-3
 returns-3 c = c .write-frame3 .ensures ∙ rw (c .before .before .before .before .answer3 .given .1, c .before .word3 .ensures)
 
 returns-4 : tie.Need-returns-4
-returns-4 c = c .write-plain .ensures ∙ rw (c .before .before .before .before .before .before .answer4 .given .1, c .before .before .before .word4 .ensures, c .before .before .word16 .ensures, c .before .word162 .ensures)
+returns-4 c = c .write-wrong .ensures ∙ rw (c .before .before .before .answer4 .given .1)
 
 returns-5 : tie.Need-returns-5
-returns-5 c = c .write-plain2 .ensures ∙ rw (c .before .before .before .before .before .answer5 .given .1, c .before .before .word5 .ensures, c .before .word6 .ensures)
+returns-5 c = c .write-plain .ensures ∙ rw (c .before .before .before .before .before .answer5 .given .1, c .before .before .word4 .ensures, c .before .word5 .ensures)
 
 returns-6 : tie.Need-returns-6
 returns-6 c = search needs
 
 returns-7 : tie.Need-returns-7
-returns-7 c = c .write-plain4 .ensures ∙ rw (c .before .before .before .before .answer6 .given .1, c .before .refusal-no .ensures)
+returns-7 c = c .write-plain3 .ensures ∙ rw (c .before .before .before .before .answer6 .given .1, c .before .refusal-no .ensures)
 
 pub write-answer-spec : {M : Type 1} → statement M
 write-answer-spec =
@@ -116,19 +107,16 @@ write-answer-spec =
     word-requires-3
     write-frame-requires-3
     enum-known-answer-4
-    word-requires-4
-    word16-requires
-    word16-requires-2
-    write-plain-requires
+    write-wrong-requires
     enum-known-answer-5
+    word-requires-4
     word-requires-5
-    word-requires-6
-    write-plain-requires-2
+    write-plain-requires
     enum-told
-    write-plain-requires-3
+    write-plain-requires-2
     enum-known-answer-6
     refusal-no-requires
-    write-plain-requires-4
+    write-plain-requires-3
     returns
     returns-2
     returns-3

@@ -20,7 +20,7 @@ others : (clock : Clock) (sight : Place → List ℕ) (a : Answer) → OneOf (1 
 others clock sight (UbxFrame class id p place) h = absurd (miss (1 ∷ 2 ∷ 3 ∷ 4 ∷ 5 ∷ 6 ∷ []) 0 tt h)
 others clock sight (RtcmFrame p place) h = refl
 others clock sight (Sentence p place) h = refl
-others clock sight (WrongSum p expect got) h = refl
+others clock sight (WrongSum class id n p expect got) h = refl
 others clock sight (NoRoom p size) h = refl
 others clock sight NeedMore h = refl
 others clock sight (Refused r) h = refl
