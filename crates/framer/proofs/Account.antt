@@ -12,13 +12,14 @@ use Rattle.look.specs.Rules.{skip, size, far}
 use Rattle.look.specs.Moves.{cost}
 use Rattle.look.specs.Passed.{whole, Says, Moves}
 use Rattle.look.proofs.Within.{move-in}
-use Rattle.framer.specs.declared.State.{State}
-use Rattle.framer.specs.Words.{leftLen, window, width, drain}
-use Rattle.framer.specs.Take.{taking}
+use Rattle.state.specs.declared.State.{State}
+use Rattle.state.specs.Words.{leftLen, window, width, drain}
+use Rattle.state.specs.Ready.{Sane}
+use Rattle.state.proofs.Window.{setupOf, window-length, window-drain, drain-sane}
+use Rattle.taking.specs.Take.{taking}
+use Rattle.taking.proofs.Took.{Took, took}
 use Rattle.framer.specs.Step.{StepOut, say, act, moveOf, stepBy}
 use Rattle.framer.specs.Reached.{isNeedMore}
-use Rattle.framer.specs.Ready.{Sane}
-use Rattle.framer.proofs.Window.{setupOf, window-length, window-drain, drain-sane, Took, took}
 
 pub record Keeps (s : State) (carry chunk : List ℕ) (o : StepOut) : Type 0 where
   -- the bytes drained or taken

@@ -7,9 +7,9 @@ use Rattle.window.specs.Sync.{first}
 use Rattle.window.specs.EndMark.{endMark}
 use Rattle.look.specs.Rules.{look, lookUbx, lookRtcm, lookNmea}
 use Rattle.look.specs.Moves.{judge, stepMove}
-use Rattle.framer.specs.Refusals.{isBad, mayOpen, mayUse}
+use Rattle.state.specs.Refusals.{isBad, mayOpen, mayUse}
+use Rattle.taking.specs.Take.{taking}
 use Rattle.framer.specs.Operations.{start, opening, closing}
-use Rattle.framer.specs.Take.{taking}
 use Rattle.framer.specs.Step.{step}
 use Rattle.framer.specs.Bench.{every, benchSet, portersErrors}
 

@@ -3,15 +3,15 @@ use mathlib.Core.Path.{_≡_, refl, sym, ap, _∙_}
 use mathlib.Core.List.{List, [], _∷_}
 use Prim.Native.Nat.{ℕ}
 use lib.ListN.{getD}
-use Rattle.framer.specs.declared.Side.{Side, the-variants.{Carry, Chunk}}
-use Rattle.framer.specs.declared.Place.{Place}
-use Rattle.framer.specs.declared.Refusal.{Refusal, the-variants.{CarryTooBig, BadState, AlreadyOpen, NotOpen, ChunkTooLong, OtherChunk, BadPlace}}
-use Rattle.framer.specs.declared.Leave.{Leave, the-variants.{Granted, Denied}}
+use Rattle.state.specs.declared.Refusal.{Refusal, the-variants.{CarryTooBig, BadState, AlreadyOpen, NotOpen, ChunkTooLong, OtherChunk, BadPlace}}
+use Rattle.state.specs.declared.Leave.{Leave, the-variants.{Granted, Denied}}
+use Rattle.state.specs.Refusals.{refusalNo, leaveNo}
+use Rattle.taking.specs.declared.Side.{Side, the-variants.{Carry, Chunk}}
+use Rattle.taking.specs.declared.Place.{Place}
 use Rattle.framer.specs.declared.Answer.{Answer, the-variants.{UbxFrame, RtcmFrame, Sentence, WrongSum, NoRoom, NeedMore, Refused}}
 use Rattle.framer.specs.declared.Opened.{Opened}
 use Rattle.framer.specs.declared.Stepped.{Stepped}
 use Rattle.framer.specs.declared.Closed.{Closed}
-use Rattle.framer.specs.Refusals.{refusalNo, leaveNo}
 use Rattle.framer.specs.Operations.{CloseOut}
 use Rattle.framer.specs.Step.{StepOut}
 use Rattle.framer.specs.Answers.{sideNo, number, values}

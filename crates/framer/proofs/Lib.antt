@@ -1,6 +1,6 @@
-pub mod Window
+pub mod Ready
+pub mod Closing
 pub mod Account
-pub mod Granted
 pub mod Turns
 pub mod Slices
 pub mod Totals

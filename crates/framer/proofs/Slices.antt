@@ -2,7 +2,7 @@
 use mathlib.Core.Path.{_≡_, sym, ap, _∙_}
 use mathlib.Core.List.{List, _++_}
 use mathlib.Core.Bool.{true}
-use Prim.Native.Nat.{ℕ, _+_, _-_, _≤_, _<_, min}
+use Prim.Native.Nat.{ℕ, _+_, _-_, _≤_, _<_}
 use native.Mathlib.Omega.{arith}
 use native.Mathlib.Nat.{add-zero}
 use lib.ListN.{length, getD, take, drop, length-append}
@@ -12,10 +12,10 @@ use Rattle.window.specs.Sync.{isSync, firstSync}
 use Rattle.window.proofs.Laws.{from, joined-left, first-here}
 use Rattle.look.specs.declared.Verdict.{Verdict}
 use Rattle.look.specs.Passed.{Stops}
-use Rattle.framer.specs.declared.State.{State}
-use Rattle.framer.specs.Words.{left, leftLen, ahead, window}
-use Rattle.framer.specs.Ready.{Sane}
-use Rattle.framer.proofs.Window.{left-length}
+use Rattle.state.specs.declared.State.{State}
+use Rattle.state.specs.Words.{left, leftLen, ahead, window}
+use Rattle.state.specs.Ready.{Sane}
+use Rattle.state.proofs.Window.{left-length}
 
 pub left-part : (l : List ℕ) (off live : ℕ) → off ≤ live → take (live - off) (drop off l) ≡ drop off (take live l)
 left-part l off live h =
@@ -36,10 +36,3 @@ syncs-at-once s carry chunk ok h e =
     let b : getD (window s carry chunk) 0 0 ≡ getD carry (s .off) 0 =
     sym (joined-left (left s carry) (ahead s chunk) 0 l) ∙ rw (getD-drop, add-zero) (getD-take (s .live) carry (s .off) 0 h) in
     first-here (isSync (s .mode)) (window s carry chunk) 0 w (rw b e)
-
--- what a close keeps and loses, where u bytes are left and r stand ahead
-pub kept-is : (u r cap : ℕ) → u ≤ cap → u + min r (cap - u) ≡ min (u + r) cap
-kept-is u r cap h = omega arith
-
-pub lost-is : (u r cap : ℕ) → u ≤ cap → r - min r (cap - u) ≡ u + r - cap
-lost-is u r cap h = omega arith

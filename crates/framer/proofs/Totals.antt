@@ -8,17 +8,18 @@ use lib.ListN.{length, length-drop}
 use borrow.Author.Tests.{ltb-true}
 use Rattle.window.proofs.Pick.{by-pick}
 use Rattle.window.specs.Sync.{firstSync}
-use Rattle.framer.specs.declared.State.{State}
-use Rattle.framer.specs.declared.Leave.{Leave, the-variants.{Granted, Denied}}
-use Rattle.framer.specs.Words.{window, width}
-use Rattle.framer.specs.Refusals.{mayOpen, mayUse}
+use Rattle.state.specs.declared.State.{State}
+use Rattle.state.specs.declared.Leave.{Leave, the-variants.{Granted, Denied}}
+use Rattle.state.specs.Words.{window, width}
+use Rattle.state.specs.Refusals.{mayOpen, mayUse}
+use Rattle.state.specs.Ready.{Sane}
+use Rattle.state.proofs.Window.{window-length}
+use Rattle.state.proofs.Granted.{use-granted, open-granted}
 use Rattle.framer.specs.Operations.{noted, drainTo, openOn, opening, closeOn, closing}
 use Rattle.framer.specs.Step.{StepOut, stepFrom, stepOn, step}
 use Rattle.framer.specs.Reached.{isDenied, isRefused, Reached, byOpening, byStep}
-use Rattle.framer.specs.Ready.{Sane}
-use Rattle.framer.proofs.Window.{window-length}
 use Rattle.framer.proofs.Account.{Keeps, step-keeps}
-use Rattle.framer.proofs.Granted.{use-granted, open-granted, noted-ready}
+use Rattle.framer.proofs.Ready.{noted-ready}
 
 -- ---- a call that is not refused was granted
 

@@ -1,40 +1,18 @@
 -- A step is: pass in silence, and say what is to be said where that stops.
 use mathlib.Core.Path.{_≡_, refl, sym, ap, _∙_}
 use mathlib.Core.List.{List}
-use Prim.Native.Nat.{ℕ, zero, suc, _+_, _-_, _≤_, _<_, min}
-use native.Mathlib.Nat.{add-zero}
+use Prim.Native.Nat.{ℕ, zero, suc, _-_, _≤_, _<_}
 use native.Mathlib.Omega.{arith}
 use Rattle.look.specs.declared.Sight.{Sight, the-variants.{Pass, Say}}
 use Rattle.look.specs.declared.Verdict.{Verdict}
 use Rattle.look.specs.Rules.{far}
 use Rattle.look.specs.Passed.{moveAt, Passed, start, turn, Stops, Says, Moves}
-use Rattle.framer.specs.declared.State.{State}
-use Rattle.framer.specs.Words.{leftLen, window, width, drain}
+use Rattle.state.specs.declared.State.{State}
+use Rattle.state.specs.Words.{leftLen, window, width, drain}
+use Rattle.state.specs.Ready.{Sane}
+use Rattle.state.proofs.Window.{window-drain, drain-sane, drain-zero, drain-drain}
 use Rattle.framer.specs.Step.{StepOut, say, act, moveOf, stepBy, stepFrom}
-use Rattle.framer.specs.Ready.{Sane}
-use Rattle.framer.proofs.Window.{window-drain, drain-sane}
 use Rattle.framer.proofs.Account.{moves-in}
-
--- ---- draining twice
-
-pub drain-zero : (s : State) → drain 0 s ≡ s
-drain-zero s =
-    let a : s .off + min (leftLen s) 0 ≡ s .off = omega arith in
-    let b : s .part + (0 - leftLen s) ≡ s .part = omega arith in
-    rw (a, b, add-zero)
-
-offs-add : (live off k j n : ℕ) → k + j ≡ n → off + min (live - off) k + min (live - (off + min (live - off) k)) j ≡ off + min (live - off) n
-offs-add live off k j n e = omega arith
-
-parts-add : (live off k j n d : ℕ) → k + j ≡ n → d + (k - (live - off)) + (j - (live - (off + min (live - off) k))) ≡ d + (n - (live - off))
-parts-add live off k j n d e = omega arith
-
-pub drain-drain : (k j n : ℕ) (s : State) → k + j ≡ n → drain j (drain k s) ≡ drain n s
-drain-drain k j n s e =
-    let c : s .used + k + j ≡ s .used + n = omega arith in
-    rw (offs-add (s .live) (s .off) k j n e, parts-add (s .live) (s .off) k j n (s .part) e, c)
-
--- ---- turns
 
 module _ (carry chunk : List ℕ) where
   act-same : (s : State) (m : Sight) → Moves (s .cap) (leftLen s) (width s) m → (f g : ℕ → StepOut)

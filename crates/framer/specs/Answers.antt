@@ -2,10 +2,10 @@
 -- order in which "Forms that must change" names them.
 use Prim.Native.Nat.{ℕ}
 use mathlib.Core.List.{List, [], _∷_}
-use Rattle.framer.specs.declared.Side.{Side, the-variants.{Carry, Chunk}}
-use Rattle.framer.specs.declared.Place.{Place}
+use Rattle.state.specs.Refusals.{refusalNo}
+use Rattle.taking.specs.declared.Side.{Side, the-variants.{Carry, Chunk}}
+use Rattle.taking.specs.declared.Place.{Place}
 use Rattle.framer.specs.declared.Answer.{Answer, the-variants.{UbxFrame, RtcmFrame, Sentence, WrongSum, NoRoom, NeedMore, Refused}}
-use Rattle.framer.specs.Refusals.{refusalNo}
 
 abbrev pub sideNo : Side → ℕ
 sideNo Carry = 0

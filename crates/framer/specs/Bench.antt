@@ -5,8 +5,8 @@ use mathlib.Core.List.{List, [], _∷_, _++_}
 use lib.ListN.{take, replicate}
 use lib.Dec.{eqb}
 use Rattle.window.specs.declared.Mode.{Mode, the-variants.{One, Two, Three}}
-use Rattle.framer.specs.declared.State.{State}
-use Rattle.framer.specs.Refusals.{leaveNo}
+use Rattle.state.specs.declared.State.{State}
+use Rattle.state.specs.Refusals.{leaveNo}
 use Rattle.framer.specs.Operations.{start, opening, closing}
 use Rattle.framer.specs.Step.{step}
 use Rattle.framer.specs.Answers.{number, values}

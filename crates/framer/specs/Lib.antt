@@ -1,10 +1,6 @@
-pub mod Words
-pub mod Refusals
 pub mod Operations
-pub mod Take
 pub mod Step
 pub mod Answers
 pub mod Promises
 pub mod Reached
-pub mod Ready
 pub mod Bench

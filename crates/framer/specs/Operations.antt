@@ -1,28 +1,23 @@
--- 01, "Opening, closing, viewing", and starting.
-use Prim.Native.Nat.{ℕ, _+_, _-_, min}
-use mathlib.Core.Bool.{true, false}
+-- 01, "Opening, closing, viewing", and starting. Viewing is the crate taking's.
+use Prim.Native.Nat.{ℕ, _-_, min}
+use mathlib.Core.Bool.{true}
 use mathlib.Core.List.{List}
-use lib.ListN.{length, take, drop}
+use lib.ListN.{length}
 use lib.Seq.{paste}
 use lib.Dec.{ltb}
 use Rattle.carry.specs.Carry.{drainCarry}
 use Rattle.window.specs.declared.Mode.{Mode}
 use Rattle.window.specs.Pick.{pick}
 use Rattle.window.specs.Sync.{firstSync}
-use Rattle.framer.specs.declared.Side.{Side, the-variants.{Carry, Chunk}}
-use Rattle.framer.specs.declared.Place.{Place}
-use Rattle.framer.specs.declared.State.{State}
-use Rattle.framer.specs.declared.Refusal.the-variants.{CarryTooBig, BadPlace}
-use Rattle.framer.specs.declared.Leave.{Leave, the-variants.{Granted, Denied}}
+use Rattle.state.specs.declared.State.{State}
+use Rattle.state.specs.declared.Refusal.the-variants.{CarryTooBig}
+use Rattle.state.specs.declared.Leave.{Leave, the-variants.{Granted, Denied}}
+use Rattle.state.specs.Words.{leftLen, ahead, window, width, fitting, drain, idle}
+use Rattle.state.specs.Refusals.{mayOpen, mayUse}
 use Rattle.framer.specs.declared.Opened.{Opened}
 use Rattle.framer.specs.declared.Closed.{Closed}
-use Rattle.framer.specs.Words.{leftLen, ahead, window, width, drain}
-use Rattle.framer.specs.Refusals.{mayOpen, mayUse}
 
 -- ---- starting
-
-abbrev pub idle : Mode → ℕ → ℕ → ℕ → State
-idle mode max cap live = record { mode = mode; max = max; cap = cap; live = live; off = 0; used = 0; «open» = false; chunk = 0; part = 0 }
 
 -- an idle state with C the carry's length; a refused start gives one with C = 0
 unfoldable pub start : Mode → ℕ → ℕ → Opened
@@ -51,10 +46,6 @@ opening s carry chunk = openOn s carry chunk (mayOpen s (length carry) (length c
 
 -- ---- closing
 
--- how much of the chunk's rest fits behind n bytes
-abbrev pub fitting : State → ℕ → ℕ
-fitting s n = min (s .chunk - s .part) (s .cap - n)
-
 pub record CloseOut : Type 0 where
   pub result : Closed
   pub carry : List ℕ
@@ -71,24 +62,3 @@ closeOn s carry chunk Granted =
 
 unfoldable pub closing : State → List ℕ → List ℕ → CloseOut
 closing s carry chunk = closeOn s carry chunk (mayUse s (length carry) (length chunk))
-
--- ---- viewing
-
-abbrev pub sideOf : Side → List ℕ → List ℕ → List ℕ
-sideOf Carry carry chunk = carry
-sideOf Chunk carry chunk = chunk
-
--- 7, bad place: start + length passes the end of its side
-abbrev pub viewLeave : Place → ℕ → Leave
-viewLeave p sideLen = pick (ltb sideLen (p .start + p .len)) (Denied BadPlace) Granted
-
-abbrev pub mayView : List ℕ → List ℕ → Place → Leave
-mayView carry chunk p = viewLeave p (length (sideOf (p .side) carry chunk))
-
--- that part of the carry or of the chunk; a refused view is the empty beginning of the carry
-abbrev pub viewIn : List ℕ → List ℕ → Place → Leave → List ℕ
-viewIn side carry p (Denied r) = take 0 carry
-viewIn side carry p Granted = take (p .len) (drop (p .start) side)
-
-unfoldable pub view : List ℕ → List ℕ → Place → List ℕ
-view carry chunk p = viewIn (sideOf (p .side) carry chunk) carry p (mayView carry chunk p)

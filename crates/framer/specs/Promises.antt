@@ -3,10 +3,10 @@
 use mathlib.Core.Path.{_≡_}
 use Prim.Native.Nat.{ℕ}
 use mathlib.Core.List.{List}
+use Rattle.state.specs.Refusals.{leaveNo}
 use Rattle.framer.specs.declared.Opened.{Opened}
 use Rattle.framer.specs.declared.Stepped.{Stepped}
 use Rattle.framer.specs.declared.Closed.{Closed}
-use Rattle.framer.specs.Refusals.{leaveNo}
 use Rattle.framer.specs.Operations.{CloseOut}
 use Rattle.framer.specs.Step.{StepOut}
 use Rattle.framer.specs.Answers as answers

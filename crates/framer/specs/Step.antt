@@ -8,14 +8,14 @@ use Rattle.look.specs.declared.Verdict.{Verdict, the-variants.{Wait, Tell, Hand
 use Rattle.look.specs.declared.Sight.{Sight, the-variants.{Pass, Say}}
 use Rattle.look.specs.Rules.{skip, size, far}
 use Rattle.look.specs.Moves.{cost, stepMove}
-use Rattle.framer.specs.declared.Place.{Place}
-use Rattle.framer.specs.declared.State.{State}
-use Rattle.framer.specs.declared.Leave.{Leave, the-variants.{Granted, Denied}}
+use Rattle.state.specs.declared.State.{State}
+use Rattle.state.specs.declared.Leave.{Leave, the-variants.{Granted, Denied}}
+use Rattle.state.specs.Words.{leftLen, window, width, drain}
+use Rattle.state.specs.Refusals.{mayUse}
+use Rattle.taking.specs.declared.Place.{Place}
+use Rattle.taking.specs.Take.{TakeOut, taking}
 use Rattle.framer.specs.declared.Answer.{Answer, the-variants.{UbxFrame, RtcmFrame, Sentence, WrongSum, NoRoom, NeedMore, Refused}}
 use Rattle.framer.specs.declared.Stepped.{Stepped}
-use Rattle.framer.specs.Words.{leftLen, window, width, drain}
-use Rattle.framer.specs.Refusals.{mayUse}
-use Rattle.framer.specs.Take.{TakeOut, taking}
 
 pub record StepOut : Type 0 where
   pub result : Stepped

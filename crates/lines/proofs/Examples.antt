@@ -6,9 +6,9 @@ use mathlib.Core.Bool.{Bool, true, false, _&&_}
 use mathlib.Core.List.{List, [], _∷_, _++_}
 use Rattle.window.specs.declared.Mode.the-variants.{One, Three}
 use Rattle.window.specs.Pick.{pick}
-use Rattle.framer.specs.declared.Side.the-variants.{Carry}
-use Rattle.framer.specs.declared.Place.{Place}
-use Rattle.framer.specs.declared.Refusal.the-variants.{NotOpen}
+use Rattle.state.specs.declared.Refusal.the-variants.{NotOpen}
+use Rattle.taking.specs.declared.Side.the-variants.{Carry}
+use Rattle.taking.specs.declared.Place.{Place}
 use Rattle.framer.specs.declared.Answer.the-variants.{UbxFrame, RtcmFrame, Sentence, WrongSum, NoRoom, NeedMore, Refused}
 use Rattle.framer.specs.Bench.{sameList}
 use Rattle.lines.specs.Text.{ascii}

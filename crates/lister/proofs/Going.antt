@@ -4,9 +4,9 @@ use mathlib.Core.Bool.{true, false, true≢false}
 use Prim.Native.Nat.{ℕ, _+_, _≤_, _<_}
 use mathlib.Core.List.{List, [], _++_, append-nil}
 use lib.ListN.{length}
+use Rattle.state.specs.declared.State.{State}
+use Rattle.state.specs.declared.Leave.{Leave, the-variants.{Granted, Denied}}
 use Rattle.framer.specs.declared.Answer.{Answer, the-variants.{UbxFrame, RtcmFrame, Sentence, WrongSum, NoRoom, NeedMore, Refused}}
-use Rattle.framer.specs.declared.State.{State}
-use Rattle.framer.specs.declared.Leave.{Leave, the-variants.{Granted, Denied}}
 use Rattle.framer.specs.Step.{StepOut, step}
 use Rattle.lines.specs.Text.{Puts}
 use Rattle.lines.specs.Lines.{line}

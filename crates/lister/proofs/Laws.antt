@@ -7,16 +7,16 @@ use mathlib.Core.List.{List, []}
 use lib.ListN.{length}
 use lib.Dec.{ltb}
 use borrow.Author.Tests.{lt-ltb, le-ltb, ltb-true, ne-eqb}
+use Rattle.state.specs.declared.State.{State}
+use Rattle.state.specs.declared.Leave.{Leave, the-variants.{Granted, Denied}}
+use Rattle.state.specs.Words.{width}
+use Rattle.state.specs.Refusals.{mayUse}
+use Rattle.state.proofs.Granted.{use-granted}
 use Rattle.framer.specs.declared.Answer.{Answer, the-variants.{UbxFrame, RtcmFrame, Sentence, WrongSum, NoRoom, NeedMore, Refused}}
-use Rattle.framer.specs.declared.State.{State}
-use Rattle.framer.specs.declared.Leave.{Leave, the-variants.{Granted, Denied}}
-use Rattle.framer.specs.Words.{width}
-use Rattle.framer.specs.Refusals.{mayUse}
 use Rattle.framer.specs.Step.{stepOn, stepFrom, step}
 use Rattle.framer.specs.Answers.{number}
 use Rattle.framer.specs.Reached.{isNeedMore, isRefused}
 use Rattle.framer.proofs.Account.{step-keeps}
-use Rattle.framer.proofs.Granted.{use-granted}
 use Rattle.framer.proofs.Totals.{stepped-granted}
 use Rattle.lines.specs.Lines.{line}
 use Rattle.lister.specs.Listing.{hasLine}

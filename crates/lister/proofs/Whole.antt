@@ -5,9 +5,9 @@ use Prim.Native.Nat.{ℕ, _+_, _-_, _≤_, _<_, min}
 use native.Mathlib.Omega.{arith}
 use mathlib.Core.List.{List, [], _∷_, _++_, append-nil, append-assoc}
 use lib.ListN.{length}
+use Rattle.state.specs.declared.State.{State}
+use Rattle.state.specs.declared.Leave.{Leave, the-variants.{Granted, Denied}}
 use Rattle.framer.specs.declared.Answer.{Answer, the-variants.{UbxFrame, RtcmFrame, Sentence, WrongSum, NoRoom, NeedMore, Refused}}
-use Rattle.framer.specs.declared.State.{State}
-use Rattle.framer.specs.declared.Leave.{Leave, the-variants.{Granted, Denied}}
 use Rattle.framer.specs.Step.{step}
 use Rattle.lines.specs.Lines.{line}
 use Rattle.lister.specs.declared.Listing.{Listing}

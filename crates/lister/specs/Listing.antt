@@ -5,8 +5,8 @@ use mathlib.Core.Bool.{Bool, true, false}
 use mathlib.Core.List.{List, [], _++_}
 use lib.ListN.{length}
 use lib.Dec.{ltb}
+use Rattle.state.specs.declared.State.{State}
 use Rattle.framer.specs.declared.Answer.{Answer}
-use Rattle.framer.specs.declared.State.{State}
 use Rattle.framer.specs.declared.Closed.{Closed}
 use Rattle.framer.specs.Operations.{opening, closing}
 use Rattle.framer.specs.Step.{step}

@@ -4,9 +4,9 @@ ghost use Prim.Native.Nat.{_+_, _≤_, _<_};
 ghost use lib.ListN.{length};
 ghost use Rattle.lister.specs.Listing.{flushed, counted, Tells, Fills, Answers, Lists};
 use framer::Closed;
-use framer::State;
 use libc::STDOUT_FILENO;
 use lines::LONGEST;
+use state::State;
 use window::Mode;
 
 // Where a listing stands: the parser; used and lost of all closes so far, and kept of the last; how many bytes of lines wait in

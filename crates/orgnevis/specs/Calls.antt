@@ -3,12 +3,13 @@ use Prim.Native.Nat.{ℕ}
 use mathlib.Core.List.{List}
 use lib.Dec.{eqb}
 use Rattle.window.specs.Pick.{pick}
-use Rattle.framer.specs.declared.Side.the-variants.{Carry, Chunk}
-use Rattle.framer.specs.Refusals.{leaveNo}
-use Rattle.framer.specs.Operations.{start, opening, closing, viewLeave}
+use Rattle.state.specs.Refusals.{leaveNo}
+use Rattle.taking.specs.declared.Side.the-variants.{Carry, Chunk}
+use Rattle.taking.specs.View.{viewLeave}
+use Rattle.framer.specs.Operations.{start, opening, closing}
 use Rattle.framer.specs.Step.{step}
-use Rattle.orgnevis.specs.declared.Read.{Read, the-variants.{Is, NoState}}
-use Rattle.orgnevis.specs.Words.{withState, modeBy, noMode, readState, plainWords, answerWords, reportWords, closeWords}
+use Rattle.words.specs.declared.Read.{Read, the-variants.{Is, NoState}}
+use Rattle.words.specs.Words.{withState, modeBy, noMode, readState, plainWords, answerWords, reportWords, closeWords}
 
 -- a number answered, and the state's words
 pub record Numbered : Type 0 where

@@ -2,28 +2,7 @@
 ghost use mathlib.Core.Path.{_≡_};
 ghost use Rattle.writer.specs.Refusals.{leaveNo};
 ghost use Rattle.writer.specs.Writing.{polling};
-ghost use Rattle.orgnevis.specs.Writes.{withWriter, writerBy, begins, adds, finishes};
-use writer::Writer;
-
-// The writer that words say.
-fn read_writer(words: &[u64; 8]) -> Writer
-    ensures { λ r. ⌜ r ≡ writerBy (now (words .entry)) ⌝ }
-{
-    Writer {
-        room: words[0] as usize,
-        len: words[1] as usize,
-        written: words[2] as usize,
-    }
-}
-
-// A writer's three words; the others stay.
-fn write_writer(w: Writer, words: &mut [u64; 8])
-    ensures { λ _. ⌜ now (words .exit) ≡ withWriter w (now (words .entry)) ⌝ }
-{
-    words[0] = w.room as u64;
-    words[1] = w.len as u64;
-    words[2] = w.written as u64;
-}
+ghost use Rattle.orgnevis.specs.Writes.{begins, adds, finishes};
 
 // Begins a frame with a payload of `len` bytes. Answers 0, 1 or 2; refused, the words are those of a bad state.
 #[no_mangle]
@@ -40,7 +19,7 @@ pub extern "C" fn orgnevis_begin(
 {
     let begun = writer::begin(memory, class, id, len as usize);
     let next = begun.state;
-    write_writer(next, words);
+    writer_words::write_writer(next, words);
     let leave = begun.leave;
     writer::leave_no(leave)
 }
@@ -52,9 +31,9 @@ pub extern "C" fn orgnevis_piece(words: &mut [u64; 8], memory: &mut [u8], bytes:
     ensures { λ _. ⌜ now (words .exit) ≡ adds (now (words .entry)) (now (memory .entry)) (now (bytes .entry)) .words ⌝ }
     ensures { λ _. ⌜ now (memory .exit) ≡ adds (now (words .entry)) (now (memory .entry)) (now (bytes .entry)) .memory ⌝ }
 {
-    let added = writer::piece(read_writer(words), memory, bytes);
+    let added = writer::piece(writer_words::read_writer(words), memory, bytes);
     let next = added.state;
-    write_writer(next, words);
+    writer_words::write_writer(next, words);
     let leave = added.leave;
     writer::leave_no(leave)
 }
@@ -66,9 +45,9 @@ pub extern "C" fn orgnevis_finish(words: &mut [u64; 8], memory: &mut [u8]) -> u6
     ensures { λ _. ⌜ now (words .exit) ≡ finishes (now (words .entry)) (now (memory .entry)) .words ⌝ }
     ensures { λ _. ⌜ now (memory .exit) ≡ finishes (now (words .entry)) (now (memory .entry)) .memory ⌝ }
 {
-    let finished = writer::finish(read_writer(words), memory);
+    let finished = writer::finish(writer_words::read_writer(words), memory);
     let next = finished.state;
-    write_writer(next, words);
+    writer_words::write_writer(next, words);
     let leave = finished.leave;
     writer::leave_no(leave)
 }

@@ -1,7 +1,7 @@
 // 01's 'Run only' lines, run: each is a carry and one or two chunks put through the operations, and what they answer.
 use framer::Answer;
-use framer::Leave;
-use framer::State;
+use state::Leave;
+use state::State;
 use window::Mode;
 
 const MAX: u16 = 16;

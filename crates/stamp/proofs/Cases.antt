@@ -2,8 +2,9 @@
 use mathlib.Core.Path.{_≡_, refl}
 use mathlib.Core.Bool.{true}
 use Rattle.window.specs.Pick.{pick}
-use Rattle.stamp.specs.Calendar.{leap, daysOfYears, dayNumber}
-use Rattle.stamp.specs.Message.{isThis, within, isDate, isTime, inRange}
+use Rattle.calendar.specs.Calendar.{leap, daysOfYears, dayNumber}
+use Rattle.calendar.specs.Ranges.{within, isDate, isTime}
+use Rattle.stamp.specs.Message.{isThis, inRange}
 use Rattle.stamp.specs.Stamp.{seconds, stampOf, read}
 use Rattle.stamp.specs.Cases.{every, cases}
 

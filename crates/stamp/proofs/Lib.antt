@@ -1,5 +1,3 @@
-pub mod Calendar
-pub mod Days
 pub mod Ranges
 pub mod Determined
 pub mod Outcomes

@@ -4,9 +4,9 @@ use mathlib.Core.Bool.{Bool}
 use mathlib.Core.List.{List, [], _∷_, _++_}
 use Prim.Native.Nat.{ℕ, _+_, _-_, _<_}
 use native.Mathlib.Omega.{arith}
-use Rattle.framer.specs.declared.Place.{Place}
+use Rattle.taking.specs.declared.Place.{Place}
+use Rattle.taking.specs.View.{view}
 use Rattle.framer.specs.declared.Answer.{Answer, the-variants.{UbxFrame, RtcmFrame, Sentence, WrongSum, NoRoom, NeedMore, Refused as AnswerRefused}}
-use Rattle.framer.specs.Operations.{view}
 use Rattle.stream.specs.Scan.{Event}
 use Rattle.stream.specs.Calls.{Parser, Call, starts, opens, steps, closes, views, stepGiven, after, heard as eventsOf, hears, hearsAll}
 use Rattle.stream.specs.Demand.{fresh}

@@ -1,9 +1,7 @@
-pub mod Calendar
 pub mod Message
 pub mod Stamp
 pub mod Step
 pub mod Promises
 pub mod Cases
-pub mod Days
 pub mod NeverBack
 pub mod FramesRead

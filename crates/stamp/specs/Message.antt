@@ -6,8 +6,8 @@ use lib.ListN.{getD}
 use lib.Dec.{leb, eqb}
 use Rattle.sum.specs.Sum.{pairOf}
 use Rattle.window.specs.Pick.{pick}
+use Rattle.calendar.specs.Ranges.{within, isDate, isTime}
 use Rattle.stamp.specs.declared.Fields.{Fields}
-use Rattle.stamp.specs.Calendar.{daysIn}
 
 -- class 01, id 21, 20 payload bytes
 unfoldable pub isThis : ℕ → ℕ → ℕ → Bool
@@ -47,18 +47,7 @@ fieldsOf payload = record {
 abbrev pub isValid : Fields → Bool
 isValid f = eqb (f .flags / 4 % 2) 1
 
-unfoldable pub within : ℕ → ℕ → ℕ → Bool
-within low high x = leb low x && leb x high
-
--- year 1999 to 2099, a real date
-unfoldable pub isDate : ℕ → ℕ → ℕ → Bool
-isDate year month day = within 1999 2099 year && (within 1 12 month && within 1 (daysIn year month) day)
-
--- hour to 23, minute to 59, second to 60
-unfoldable pub isTime : ℕ → ℕ → ℕ → Bool
-isTime hour minute second = within 0 23 hour && (within 0 59 minute && within 0 60 second)
-
--- and nanoseconds within one thousand million either way
+-- a date and a time in range, and nanoseconds within one thousand million either way
 unfoldable pub inRange : Fields → Bool
 inRange f =
     isDate (f .year) (f .month) (f .day)

@@ -4,7 +4,7 @@ use Prim.Native.Nat.{ℕ, _+_, _≤_, _<_}
 use mathlib.Core.List.{List, [], _∷_, _++_}
 use lib.ListN.{length}
 use Rattle.window.specs.declared.Mode.{Mode}
-use Rattle.framer.specs.declared.State.{State}
+use Rattle.state.specs.declared.State.{State}
 use Rattle.framer.specs.Step.{step as frameStep}
 use Rattle.stream.specs.Scan.{Said, ubxFrame, rtcmFrame, sentence, wrongSum, noRoom, Event, scan}
 use Rattle.stream.specs.Calls.{Parser, given, Call, starts, opens, steps, closes, views, after}

@@ -5,18 +5,15 @@ use mathlib.Core.List.{List}
 use lib.ListN.{length}
 use lib.Dec.{ltb}
 use Rattle.window.specs.Pick.{pick}
+use Rattle.calendar.specs.Calendar.{dayNumber, secondsAt}
 use Rattle.stamp.specs.declared.Fields.{Fields}
 use Rattle.stamp.specs.declared.Clock.{Clock, the-variants.{Unset, Last}}
 use Rattle.stamp.specs.declared.Fault.{Fault, the-variants.{NotThisMessage, NotValid, Field}}
 use Rattle.stamp.specs.declared.Reading.{Reading, the-variants.{Stamp, BackBy, Refused}}
 use Rattle.stamp.specs.declared.Heard.{Heard}
-use Rattle.stamp.specs.Calendar.{dayNumber}
 use Rattle.stamp.specs.Message.{isThis, fieldsOf, isValid, inRange}
 
--- whole seconds since 1970; second 60 counts as the next minute's 0
-abbrev pub secondsAt : ℕ → ℕ → ℕ → ℕ → ℕ
-secondsAt days hour minute second = ((days * 24 + hour) * 60 + minute) * 60 + second
-
+-- whole seconds since 1970
 unfoldable pub seconds : Fields → ℕ
 seconds f = secondsAt (dayNumber (f .year) (f .month) (f .day)) (f .hour) (f .minute) (f .second)
 

@@ -2,10 +2,10 @@
 use Prim.Native.Nat.{ℕ, _-_}
 use mathlib.Core.List.{List}
 use lib.ListN.{length, take}
-use Rattle.framer.specs.declared.Place.{Place}
-use Rattle.framer.specs.declared.State.{State}
+use Rattle.state.specs.declared.State.{State}
+use Rattle.taking.specs.declared.Place.{Place}
+use Rattle.taking.specs.View.{view}
 use Rattle.framer.specs.declared.Answer.{Answer, the-variants.{UbxFrame, RtcmFrame, Sentence, WrongSum, NoRoom, NeedMore, Refused}}
-use Rattle.framer.specs.Operations.{view}
 use Rattle.framer.specs.Step.{StepOut, step as frameStep}
 use Rattle.stamp.specs.declared.Clock.{Clock}
 use Rattle.stamp.specs.declared.Heard.{Heard}

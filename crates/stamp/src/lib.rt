@@ -1,17 +1,16 @@
 // Stamps that never run back: NAV-TIMEUTC frames read to nanoseconds since 1970, over the framer's answers.
 ghost use mathlib.Core.Path.{_≡_};
 ghost use mathlib.Core.Bool.{true};
-ghost use Prim.Native.Nat.{_≤_, _<_};
+ghost use Prim.Native.Nat.{_<_};
 ghost use lib.ListN.{length};
-ghost use Rattle.framer.specs.Operations.{view};
-ghost use Rattle.stamp.specs.Calendar.{leap, daysIn, daysBeforeYear, daysBeforeMonth, dayNumber};
-ghost use Rattle.stamp.specs.Message.{isThis, isMinus, distance, fieldsOf, isValid, within, isDate, isTime, inRange};
+ghost use Rattle.taking.specs.View.{view};
+ghost use Rattle.stamp.specs.Message.{isThis, isMinus, distance, fieldsOf, isValid, inRange};
 ghost use Rattle.sum.specs.Sum.{pairOf};
-ghost use Rattle.stamp.specs.Stamp.{secondsAt, stampOf, heard, hand, read};
+ghost use Rattle.stamp.specs.Stamp.{stampOf, heard, hand, read};
 ghost use Rattle.stamp.specs.Step.{payloadOf, tells, step};
 ghost use Rattle.stamp.specs.Promises.{Reads, Times};
 use framer::Answer;
-use framer::State;
+use state::State;
 
 // NAV-TIMEUTC.
 const CLASS: u8 = 0x01;
@@ -27,11 +26,6 @@ const SECOND: u64 = 1000000000;
 const HALF: u64 = 0x80000000;
 
 const ALL: u64 = 0x100000000;
-
-// The months' lengths, and the days before each, in a year that is no leap year.
-const MONTHS: [u64; 12] = [31, 28, 31, 30, 31, 30, 31, 31, 30, 31, 30, 31];
-
-const BEFORE: [u64; 12] = [0, 31, 59, 90, 120, 151, 181, 212, 243, 273, 304, 334];
 
 // The last stamp handed out, if any. Any value is taken.
 pub enum Clock {
@@ -90,75 +84,6 @@ struct Fields {
     minute: u64,
     second: u64,
     flags: u64,
-}
-
-// Every year that 4 divides, but of those that 100 divides only those that 400 does.
-fn is_leap(year: u64) -> bool
-    ensures { λ r. ⌜ r ≡ leap year ⌝ }
-{
-    if year % 400 == 0 {
-        return true;
-    }
-    if year % 100 == 0 {
-        return false;
-    }
-    year % 4 == 0
-}
-
-// How long a month is.
-fn days_in(year: u64, month: u64) -> u64
-    requires { ⌜ (1 ≤ month) × (month ≤ 12) ⌝ }
-    ensures { λ r. ⌜ r ≡ daysIn year month ⌝ }
-{
-    let at = (month - 1) as usize;
-    if month != 2 {
-        return MONTHS[at];
-    }
-    if is_leap(year) {
-        return 29;
-    }
-    MONTHS[at]
-}
-
-// The days of the months before one.
-fn days_before_month(year: u64, month: u64) -> u64
-    requires { ⌜ (1 ≤ month) × (month ≤ 12) ⌝ }
-    ensures { λ r. ⌜ r ≡ daysBeforeMonth year month ⌝ }
-{
-    let at = (month - 1) as usize;
-    if month <= 2 {
-        return BEFORE[at];
-    }
-    if is_leap(year) {
-        return BEFORE[at] + 1;
-    }
-    BEFORE[at]
-}
-
-// The days of the years before one: 365 each, and one more for each fourth year, but for the hundredths, and for each four hundredth.
-fn days_before_year(year: u64) -> u64
-    requires { ⌜ (1970 ≤ year) × (year ≤ 65535) ⌝ }
-    ensures { λ r. ⌜ r ≡ daysBeforeYear year ⌝ }
-{
-    365 * (year - 1970) + (year - 1969) / 4 + (year - 1601) / 400 - (year - 1901) / 100
-}
-
-// Days since 1970-01-01.
-fn day_number(year: u64, month: u64, day: u64) -> u64
-    requires { ⌜ (1970 ≤ year) × (year ≤ 65535) ⌝ }
-    requires { ⌜ (1 ≤ month) × (month ≤ 12) ⌝ }
-    requires { ⌜ (1 ≤ day) × (day ≤ 31) ⌝ }
-    ensures { λ r. ⌜ r ≡ dayNumber year month day ⌝ }
-{
-    days_before_year(year) + days_before_month(year, month) + (day - 1)
-}
-
-// Seconds since 1970. Second 60 counts as the next minute's 0.
-fn seconds_at(days: u64, hour: u64, minute: u64, second: u64) -> u64
-    requires { ⌜ (days < 65536) × ((hour < 24) × ((minute < 60) × (second ≤ 60))) ⌝ }
-    ensures { λ r. ⌜ r ≡ secondsAt days hour minute second ⌝ }
-{
-    ((days * 24 + hour) * 60 + minute) * 60 + second
 }
 
 // Whether 32 bits are a number below zero, and how far from zero it is.
@@ -230,52 +155,17 @@ fn is_valid(f: Fields) -> bool
     f.flags / 4 % 2 == 1
 }
 
-fn within(low: u64, high: u64, x: u64) -> bool
-    ensures { λ r. ⌜ r ≡ within low high x ⌝ }
-{
-    if x < low {
-        return false;
-    }
-    x <= high
-}
-
-// Year 1999 to 2099, and a real date.
-fn is_date(year: u64, month: u64, day: u64) -> bool
-    ensures { λ r. ⌜ r ≡ isDate year month day ⌝ }
-{
-    if !within(1999, 2099, year) {
-        return false;
-    }
-    if !within(1, 12, month) {
-        return false;
-    }
-    within(1, days_in(year, month), day)
-}
-
-// Second 60 may stand in any minute.
-fn is_time(hour: u64, minute: u64, second: u64) -> bool
-    ensures { λ r. ⌜ r ≡ isTime hour minute second ⌝ }
-{
-    if !within(0, 23, hour) {
-        return false;
-    }
-    if !within(0, 59, minute) {
-        return false;
-    }
-    within(0, 60, second)
-}
-
 // Whether every field is in its range.
 fn in_range(f: Fields) -> bool
     ensures { λ r. ⌜ r ≡ inRange f ⌝ }
 {
-    if !is_date(f.year, f.month, f.day) {
+    if !calendar::is_date(f.year, f.month, f.day) {
         return false;
     }
-    if !is_time(f.hour, f.minute, f.second) {
+    if !calendar::is_time(f.hour, f.minute, f.second) {
         return false;
     }
-    within(0, SECOND, f.nano)
+    calendar::within(0, SECOND, f.nano)
 }
 
 // Nanoseconds since 1970.
@@ -283,8 +173,8 @@ fn stamp_of(f: Fields) -> u64
     requires { ⌜ inRange f ≡ true ⌝ }
     ensures { λ r. ⌜ r ≡ stampOf f ⌝ }
 {
-    let days = day_number(f.year, f.month, f.day);
-    let whole = seconds_at(days, f.hour, f.minute, f.second) * SECOND;
+    let days = calendar::day_number(f.year, f.month, f.day);
+    let whole = calendar::seconds_at(days, f.hour, f.minute, f.second) * SECOND;
     if f.minus {
         return whole - f.nano;
     }
@@ -377,7 +267,7 @@ fn tell<'a>(clock: Clock, carry: &'a [u8], chunk: &'a [u8], answer: Answer) -> N
         clock,
         class,
         id,
-        payload_of(framer::view(carry, chunk, place)),
+        payload_of(taking::view(carry, chunk, place)),
     );
     let reading = heard.reading;
     let next = heard.clock;

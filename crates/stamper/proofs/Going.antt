@@ -7,9 +7,10 @@ use mathlib.Core.List.{List}
 use lib.ListN.{length}
 use Rattle.lines.proofs.Laws.{fits}
 use Rattle.lister.proofs.Laws.{Uses}
+use Rattle.stamp_lines.specs.Notes.{goesOn}
 use Rattle.stamper.specs.declared.Stamping.{Stamping}
 use Rattle.stamper.specs.declared.Turn.{Turn}
-use Rattle.stamper.specs.Stamping.{Point, goesOn, noteAt, after, Ends, stops, goes, pointOf, Makes, Tells, Steps}
+use Rattle.stamper.specs.Stamping.{Point, noteAt, after, Ends, stops, goes, pointOf, Makes, Tells, Steps}
 use Rattle.stamper.proofs.Laws.{uses}
 
 pub record Going (l : Stamping) (carry chunk out : List ℕ) (next : Stamping) (carryNow : List ℕ) : Type 0 where

@@ -8,7 +8,8 @@ use Rattle.lister.specs.Listing.{hasLine}
 use Rattle.lister.proofs.Laws.{Uses, line-uses}
 use Rattle.stamp.specs.declared.Told.{Told}
 use Rattle.stamp.specs.Step.{step}
-use Rattle.stamper.specs.Stamping.{noted, goesOn, Point, timed, noteAt, after, Ends, stops, goes}
+use Rattle.stamp_lines.specs.Notes.{noted, goesOn}
+use Rattle.stamper.specs.Stamping.{Point, timed, noteAt, after, Ends, stops, goes}
 
 said-something : (a : Answer) (told : Told) → goesOn (noted a told) ≡ true → hasLine a ≡ true
 said-something (UbxFrame class id p place) told e = refl

@@ -13,7 +13,7 @@ use Rattle.look.specs.declared.Verdict.{Verdict, the-variants.{Wait, Tell, Hand
 use Rattle.look.specs.declared.Sight.the-variants.{Say}
 use Rattle.look.specs.Moves.{judge}
 use Rattle.look.specs.Passed.{whole}
-use Rattle.framer.specs.declared.Place.{Place}
+use Rattle.taking.specs.declared.Place.{Place}
 use Rattle.framer.specs.Step.{frameAt, taleAt}
 use Rattle.framer.specs.Reached.{isNeedMore, isRefused}
 use Rattle.stream.specs.Scan.{frameSaid, taleSaid, body}

@@ -9,19 +9,19 @@ use lib.ListN.{length}
 use Rattle.look.specs.declared.Verdict.the-variants.{Wait, Tell, Hand}
 use Rattle.look.specs.declared.Sight.{Sight, the-variants.{Pass, Say}}
 use Rattle.look.specs.Rules.{skip, size, far}
-use Rattle.framer.specs.declared.Place.{Place}
-use Rattle.framer.specs.declared.State.{State}
-use Rattle.framer.specs.declared.Leave.{Leave, the-variants.{Granted, Denied}}
-use Rattle.framer.specs.Words.{window, width, drain}
-use Rattle.framer.specs.Refusals.{mayOpen, mayUse}
+use Rattle.state.specs.declared.State.{State}
+use Rattle.state.specs.declared.Leave.{Leave, the-variants.{Granted, Denied}}
+use Rattle.state.specs.Words.{window, width, drain}
+use Rattle.state.specs.Refusals.{mayOpen, mayUse}
+use Rattle.state.specs.Ready.{Sane}
+use Rattle.state.proofs.Window.{Setup, setupOf}
+use Rattle.state.proofs.Granted.{use-granted}
+use Rattle.taking.specs.declared.Place.{Place}
+use Rattle.taking.specs.Take.{taking}
 use Rattle.framer.specs.Operations.{openOn, opening, closeOn, closing}
-use Rattle.framer.specs.Take.{taking}
 use Rattle.framer.specs.Step.{StepOut, act, moveOf, stepBy, stepOn, step}
 use Rattle.framer.specs.Reached.{isDenied, isRefused}
-use Rattle.framer.specs.Ready.{Sane}
-use Rattle.framer.proofs.Window.{Setup, setupOf}
 use Rattle.framer.proofs.Account.{step-keeps}
-use Rattle.framer.proofs.Granted.{use-granted}
 use Rattle.framer.proofs.Totals.{opened-granted, stepped-granted, closed-granted}
 use Rattle.stream.specs.Scan.{Event}
 use Rattle.stream.specs.Calls.{Parser, Arg, own, other, given, regained, Call, starts, opens, steps, closes, views, after, heard, hears, loses, refused, afterAll, hearsAll, losesAll}

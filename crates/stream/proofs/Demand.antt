@@ -9,9 +9,9 @@ use Rattle.window.specs.declared.Mode.{Mode}
 use Rattle.window.specs.Pick.{pick}
 use Rattle.look.specs.Rules.{look}
 use Rattle.look.specs.Moves.{stepMove}
-use Rattle.framer.specs.Words.{leftLen, window}
-use Rattle.framer.specs.Operations.{idle, start}
-use Rattle.framer.proofs.Window.{Setup}
+use Rattle.state.specs.Words.{leftLen, window, idle}
+use Rattle.state.proofs.Window.{Setup}
+use Rattle.framer.specs.Operations.{start}
 use Rattle.stream.specs.Scan.{scanMove, Scan, scan}
 use Rattle.stream.specs.Calls.{hearsAll}
 use Rattle.stream.specs.Runs.{between, joined}

@@ -11,18 +11,18 @@ use Rattle.look.specs.declared.Verdict.{Verdict, the-variants.{Wait, Tell, Hand
 use Rattle.look.specs.declared.Sight.{Sight, the-variants.{Pass, Say}}
 use Rattle.look.specs.Rules.{skip, size, far}
 use Rattle.look.specs.Passed.{Moves}
-use Rattle.framer.specs.declared.Place.{Place}
-use Rattle.framer.specs.declared.State.{State}
-use Rattle.framer.specs.declared.Leave.{Leave, the-variants.{Granted, Denied}}
+use Rattle.state.specs.declared.State.{State}
+use Rattle.state.specs.declared.Leave.{Leave, the-variants.{Granted, Denied}}
+use Rattle.state.specs.Words.{leftLen, window, width, drain}
+use Rattle.state.specs.Refusals.{mayUse}
+use Rattle.state.specs.Ready.{Sane}
+use Rattle.state.proofs.Window.{window-drain, drain-sane}
+use Rattle.state.proofs.Granted.{use-granted}
+use Rattle.taking.specs.declared.Place.{Place}
+use Rattle.taking.specs.Take.{taking}
 use Rattle.framer.specs.declared.Answer.the-variants.{WrongSum}
-use Rattle.framer.specs.Words.{leftLen, window, width, drain}
-use Rattle.framer.specs.Refusals.{mayUse}
-use Rattle.framer.specs.Take.{taking}
 use Rattle.framer.specs.Step.{StepOut, frameAt, say, act, moveOf, stepBy, stepOn, step}
-use Rattle.framer.specs.Ready.{Sane}
-use Rattle.framer.proofs.Window.{window-drain, drain-sane}
 use Rattle.framer.proofs.Account.{moves-in}
-use Rattle.framer.proofs.Granted.{use-granted}
 use Rattle.stream.specs.Interface.{WrongFrame, Bytes}
 use Rattle.stream.specs.Frames.{WrongSumsStand}
 use Rattle.stream.proofs.OnlyGood.{bytes-on}

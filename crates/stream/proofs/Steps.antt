@@ -15,18 +15,22 @@ use Rattle.look.specs.declared.Sight.{Sight, the-variants.{Pass, Say}}
 use Rattle.look.specs.Rules.{skip, size, far}
 use Rattle.look.specs.Moves.{cost}
 use Rattle.look.specs.Passed.{whole, Moves}
-use Rattle.framer.specs.declared.State.{State}
-use Rattle.framer.specs.declared.Leave.the-variants.{Granted}
-use Rattle.framer.specs.Words.{leftLen, window, width, drain}
-use Rattle.framer.specs.Refusals.{mayOpen, mayUse}
-use Rattle.framer.specs.Operations.{noted, drainTo, opening, closing, view}
-use Rattle.framer.specs.Take.{taking}
+use Rattle.state.specs.declared.State.{State}
+use Rattle.state.specs.declared.Leave.the-variants.{Granted}
+use Rattle.state.specs.Words.{leftLen, window, width, drain}
+use Rattle.state.specs.Refusals.{mayOpen, mayUse}
+use Rattle.state.specs.Ready.{Sane}
+use Rattle.state.proofs.Window.{Setup, setupOf, window-length, window-drain, drain-sane}
+use Rattle.state.proofs.Granted.{use-granted, open-granted}
+use Rattle.taking.specs.View.{view}
+use Rattle.taking.specs.Take.{taking}
+use Rattle.taking.proofs.Took.{Took, took}
+use Rattle.framer.specs.Operations.{noted, drainTo, opening, closing}
 use Rattle.framer.specs.Step.{StepOut, act, moveOf, stepBy}
 use Rattle.framer.specs.Reached.{isNeedMore}
-use Rattle.framer.specs.Ready.{Sane}
-use Rattle.framer.proofs.Window.{Setup, setupOf, window-length, window-drain, drain-sane, Took, took, closed-keeps}
+use Rattle.framer.proofs.Closing.{closed-keeps}
 use Rattle.framer.proofs.Account.{moves-in}
-use Rattle.framer.proofs.Granted.{use-granted, open-granted, noted-ready}
+use Rattle.framer.proofs.Ready.{noted-ready}
 use Rattle.stream.specs.Scan.{body}
 use Rattle.stream.specs.Calls.{heard}
 use Rattle.stream.proofs.Cases.{frame-heard, tale-heard}

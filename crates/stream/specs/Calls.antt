@@ -5,10 +5,11 @@ use mathlib.Core.Bool.{Bool}
 use mathlib.Core.List.{List, [], _∷_, _++_}
 use lib.ListN.{length}
 use Rattle.window.specs.declared.Mode.{Mode}
-use Rattle.framer.specs.declared.Place.{Place}
-use Rattle.framer.specs.declared.State.{State}
+use Rattle.state.specs.declared.State.{State}
+use Rattle.taking.specs.declared.Place.{Place}
+use Rattle.taking.specs.View.{mayView, view}
 use Rattle.framer.specs.declared.Answer.{Answer, the-variants.{UbxFrame, RtcmFrame, Sentence, WrongSum, NoRoom, NeedMore, Refused}}
-use Rattle.framer.specs.Operations.{CloseOut, start, opening, closing, mayView, view}
+use Rattle.framer.specs.Operations.{CloseOut, start, opening, closing}
 use Rattle.framer.specs.Step.{StepOut, step}
 use Rattle.framer.specs.Reached.{isDenied, isRefused}
 use Rattle.stream.specs.Scan.{Event, ubxFrame, rtcmFrame, sentence, wrongSum, noRoom}

@@ -4,9 +4,9 @@ use Prim.Native.Nat.{ℕ, _+_, _-_, _≤_, _<_}
 use mathlib.Core.List.{List, [], _∷_, _++_, List·Memᴰ as Among}
 use lib.ListN.{length, getD, drop}
 use Rattle.window.specs.declared.Mode.{Mode, the-variants.{One}}
-use Rattle.framer.specs.declared.State.{State}
+use Rattle.state.specs.declared.State.{State}
+use Rattle.state.specs.Words.{window}
 use Rattle.framer.specs.declared.Answer.the-variants.{WrongSum}
-use Rattle.framer.specs.Words.{window}
 use Rattle.framer.specs.Step.{step}
 use Rattle.stream.specs.Scan.{Said, ubxFrame, rtcmFrame, sentence, wrongSum, noRoom, Event, scan, HasScan}
 use Rattle.stream.specs.Interface.{checksum, summed, frame, GoodFrame, WrongFrame, Bytes}

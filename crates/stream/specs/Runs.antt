@@ -3,7 +3,7 @@ use mathlib.Core.Path.{_≡_}
 use Prim.Native.Nat.{ℕ}
 use mathlib.Core.Bool.{Bool, true, false}
 use mathlib.Core.List.{List, [], _∷_, _++_}
-use Rattle.framer.specs.declared.Place.{Place}
+use Rattle.taking.specs.declared.Place.{Place}
 use Rattle.framer.specs.Reached.{isNeedMore}
 use Rattle.stream.specs.Calls.{Parser, Arg, own, Call, opens, steps, closes, views, stepGiven, after, refused}
 

@@ -14,16 +14,17 @@ use Rattle.window.specs.Pick.{pick}
 use Rattle.window.specs.Sync.{first}
 use Rattle.look.specs.Rules.{skip, size, look}
 use Rattle.look.specs.Moves.{canHand, stepMove}
-use Rattle.framer.specs.declared.Place.{Place}
-use Rattle.framer.specs.declared.State.{State}
-use Rattle.framer.specs.declared.Leave.the-variants.{Granted}
+use Rattle.state.specs.declared.State.{State}
+use Rattle.state.specs.declared.Leave.the-variants.{Granted}
+use Rattle.state.specs.Words.{width, idle}
+use Rattle.state.proofs.Granted.{Usable, grant-use, Openable, grant-open}
+use Rattle.state.proofs.Window.{drain-zero}
+use Rattle.taking.specs.declared.Place.{Place}
+use Rattle.taking.specs.View.{view}
+use Rattle.taking.specs.Take.{taking}
 use Rattle.framer.specs.declared.Answer.the-variants.{UbxFrame, NeedMore}
-use Rattle.framer.specs.Words.{width}
-use Rattle.framer.specs.Operations.{idle, start, opening, closing, view}
-use Rattle.framer.specs.Take.{taking}
+use Rattle.framer.specs.Operations.{start, opening, closing}
 use Rattle.framer.specs.Step.{out, step}
-use Rattle.framer.proofs.Granted.{Usable, grant-use, Openable, grant-open}
-use Rattle.framer.proofs.Turns.{drain-zero}
 use Rattle.stream.specs.Scan.{Event}
 use Rattle.stream.specs.Calls as calls
 use Rattle.stream.specs.Calls.{Parser, Arg, Call, hearsAll, losesAll, afterAll}

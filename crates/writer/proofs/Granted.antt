@@ -5,7 +5,7 @@ use Prim.Native.Nat.{ℕ, _+_, _≤_}
 use native.Mathlib.Omega.{arith}
 use borrow.Author.Tests.{eqb-true, ltb-false, le-ltb, eq-eqb, not-false}
 use Rattle.window.proofs.Pick.{by-pick, pick-false}
-use Rattle.framer.proofs.Granted.{any-next, none-of}
+use Rattle.state.proofs.Granted.{any-next, none-of}
 use Rattle.writer.specs.declared.Writer.{Writer}
 use Rattle.writer.specs.declared.Leave.{Leave, the-variants.{Granted}}
 use Rattle.writer.specs.Refusals.{mayBegin, faults, isBad, mayAdd, mayFinish}

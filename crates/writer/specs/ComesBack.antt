@@ -4,12 +4,13 @@ use mathlib.Core.List.{List, [], _∷_}
 use Prim.Native.Nat.{ℕ, _+_, _≤_}
 use lib.ListN.{length, take}
 use Rattle.window.specs.declared.Mode.{Mode}
-use Rattle.framer.specs.declared.Side.the-variants.{Chunk}
-use Rattle.framer.specs.declared.Place.{Place}
-use Rattle.framer.specs.declared.Leave.the-variants.{Granted as FramerGranted}
+use Rattle.state.specs.declared.Leave.the-variants.{Granted as FramerGranted}
+use Rattle.taking.specs.declared.Side.the-variants.{Chunk}
+use Rattle.taking.specs.declared.Place.{Place}
+use Rattle.taking.specs.View.{view}
 use Rattle.framer.specs.declared.Opened.{Opened}
 use Rattle.framer.specs.declared.Answer.the-variants.{UbxFrame, NeedMore}
-use Rattle.framer.specs.Operations.{CloseOut, start, opening, closing, view}
+use Rattle.framer.specs.Operations.{CloseOut, start, opening, closing}
 use Rattle.framer.specs.Step.{StepOut, step}
 use Rattle.stream.specs.Calls.{Call, afterAll, hearsAll, losesAll}
 use Rattle.stream.specs.Runs.{between, Follows, joined}

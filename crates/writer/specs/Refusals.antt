@@ -4,7 +4,7 @@ use mathlib.Core.Bool.{Bool, not}
 use mathlib.Core.List.{List, [], _∷_}
 use lib.Dec.{ltb, eqb}
 use Rattle.window.specs.Pick.{pick}
-use Rattle.framer.specs.Refusals.{anyOf}
+use Rattle.state.specs.Refusals.{anyOf}
 use Rattle.writer.specs.declared.Writer.{Writer}
 use Rattle.writer.specs.declared.Refusal.{Refusal, the-variants.{TooLong, NoRoom, BadState, PieceTooLong, Early}}
 use Rattle.writer.specs.declared.Leave.{Leave, the-variants.{Granted, Denied}}

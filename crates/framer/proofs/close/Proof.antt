@@ -1,7 +1,7 @@
 -- `framer::close` meets its contract.
 use mathlib.Core.Path.{refl, sym, _∙_}
+use Rattle.state.proofs.Granted.{use-granted}
 use Rattle.framer.specs.Operations.{closing}
-use Rattle.framer.proofs.Granted.{use-granted}
 use borrow.Author.Needs.{needs}
 use Rattle.framer.proofs.close.Statement.{statement}
 use Rattle.framer.proofs.close.Tie as tie

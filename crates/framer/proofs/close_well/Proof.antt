@@ -1,11 +1,11 @@
 -- `framer::close_well` meets its contract.
 use Prim.Native.Nat.{_≤_, _-_}
-use Rattle.framer.proofs.Slices.{kept-is, lost-is}
+use Rattle.framer.proofs.Closing.{kept-is, lost-is}
 -- `framer::close_well` meets its contract.
 use mathlib.Core.Path.{_∙_}
 use native.Mathlib.Omega.{arith}
 use Rattle.window.proofs.Laws.{from}
-use Rattle.framer.specs.Words.{leftLen}
+use Rattle.state.specs.Words.{leftLen}
 use borrow.Author.Needs.{needs}
 use Rattle.framer.proofs.close_well.Statement.{statement}
 use Rattle.framer.proofs.close_well.Tie as tie

@@ -1,7 +1,8 @@
 -- `framer::open` meets its contract.
 use mathlib.Core.Path.{refl, sym, _∙_}
+use Rattle.state.proofs.Granted.{open-granted}
 use Rattle.framer.specs.Operations.{opening}
-use Rattle.framer.proofs.Granted.{open-granted, noted-ready}
+use Rattle.framer.proofs.Ready.{noted-ready}
 use borrow.Author.Needs.{needs}
 use Rattle.framer.proofs.open.Statement.{statement}
 use Rattle.framer.proofs.open.Tie as tie

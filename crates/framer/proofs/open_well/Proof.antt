@@ -8,10 +8,10 @@ use lib.ListN.{length}
 use borrow.Author.Tests.{lt-ltb, le-ltb}
 use Rattle.window.specs.Pick.{pick}
 use Rattle.window.specs.Sync.{firstSync}
-use Rattle.framer.specs.Words.{window, width}
+use Rattle.state.specs.Words.{window, width}
+use Rattle.state.proofs.Window.{drain-zero}
 use Rattle.framer.specs.Operations.{noted}
 use Rattle.framer.proofs.Slices.{left-part, syncs-at-once}
-use Rattle.framer.proofs.Turns.{drain-zero}
 use borrow.Author.Needs.{needs}
 use Rattle.framer.proofs.open_well.Statement.{statement}
 use Rattle.framer.proofs.open_well.Tie as tie

@@ -4,9 +4,10 @@ use Prim.Native.Nat.{_+_}
 use native.Mathlib.Omega.{arith}
 use Rattle.look.specs.Rules.{skip, size}
 use Rattle.look.specs.Moves.{cost}
-use Rattle.framer.specs.Words.{drain}
-use Rattle.framer.proofs.Granted.{drain-ready, room-of}
-use Rattle.framer.proofs.Turns.{drain-drain}
+use Rattle.state.specs.Words.{drain}
+use Rattle.state.proofs.Granted.{drain-ready}
+use Rattle.state.proofs.Window.{drain-drain}
+use Rattle.framer.proofs.Ready.{room-of}
 use borrow.Author.Needs.{needs}
 use Rattle.framer.proofs.said.Statement.{statement}
 use Rattle.framer.proofs.said.Tie as tie

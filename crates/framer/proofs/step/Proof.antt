@@ -1,7 +1,7 @@
 -- `framer::step` meets its contract.
 use mathlib.Core.Path.{refl, sym, _∙_}
+use Rattle.state.proofs.Granted.{use-granted}
 use Rattle.framer.specs.Step.{step}
-use Rattle.framer.proofs.Granted.{use-granted}
 use borrow.Author.Needs.{needs}
 use Rattle.framer.proofs.step.Statement.{statement}
 use Rattle.framer.proofs.step.Tie as tie

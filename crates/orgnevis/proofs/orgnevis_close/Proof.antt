@@ -4,7 +4,7 @@ use Rattle.framer.specs.declared.Closed.{Closed}
 use Rattle.framer.specs.Operations.{closing}
 use Rattle.framer.proofs.Determined.{closes-is}
 use Rattle.orgnevis.specs.Calls.{closes}
-use Rattle.orgnevis.proofs.Kept.{close-keeps, close-refused, same, closed-words}
+use Rattle.words.proofs.Kept.{close-keeps, close-refused, same, closed-words}
 use borrow.Author.Needs.{needs}
 use Rattle.orgnevis.proofs.orgnevis_close.Statement.{statement}
 use Rattle.orgnevis.proofs.orgnevis_close.Tie as tie

@@ -4,7 +4,7 @@ use Rattle.framer.specs.declared.Opened.{Opened}
 use Rattle.framer.specs.Operations.{opening}
 use Rattle.framer.proofs.Determined.{opens-is}
 use Rattle.orgnevis.specs.Calls.{opens}
-use Rattle.orgnevis.proofs.Kept.{open-keeps, open-refused, same, opened-words}
+use Rattle.words.proofs.Kept.{open-keeps, open-refused, same, opened-words}
 use borrow.Author.Needs.{needs}
 use Rattle.orgnevis.proofs.orgnevis_open.Statement.{statement}
 use Rattle.orgnevis.proofs.orgnevis_open.Tie as tie

@@ -4,7 +4,7 @@ use lib.ListN.{length}
 use Rattle.window.specs.Pick.{pick}
 use Rattle.framer.specs.Operations.{start}
 use Rattle.framer.proofs.Determined.{opens-is}
-use Rattle.orgnevis.specs.Words.{modeBy}
+use Rattle.words.specs.Words.{modeBy}
 use Rattle.orgnevis.specs.Calls.{starts}
 use borrow.Author.Needs.{needs}
 use Rattle.orgnevis.proofs.orgnevis_start.Statement.{statement}

@@ -3,7 +3,7 @@ use mathlib.Core.Path.{sym, _∙_}
 use Rattle.framer.specs.Step.{step}
 use Rattle.framer.proofs.Determined.{steps-is}
 use Rattle.orgnevis.specs.Calls.{steps}
-use Rattle.orgnevis.proofs.Kept.{step-stays, stepped-words}
+use Rattle.words.proofs.Kept.{step-stays, stepped-words}
 use borrow.Author.Needs.{needs}
 use Rattle.orgnevis.proofs.orgnevis_step.Statement.{statement}
 use Rattle.orgnevis.proofs.orgnevis_step.Tie as tie

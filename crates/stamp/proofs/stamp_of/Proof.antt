@@ -2,11 +2,9 @@
 use Prim.Native.Nat.{_-_}
 use native.Mathlib.Omega.{arith}
 use Rattle.window.specs.Pick.{pick}
+use Rattle.calendar.proofs.Ranges.{day-bound}
 use Rattle.stamp.specs.Stamp.{seconds, stampOf}
-use Rattle.stamp.proofs.Ranges.{
-  ranged,
-  day-bound,
-}
+use Rattle.stamp.proofs.Ranges.{ranged}
 use Rattle.stamp.proofs.stamp_of.Statement.{statement}
 use Rattle.stamp.proofs.stamp_of.Tie as tie
 

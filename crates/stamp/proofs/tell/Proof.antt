@@ -4,9 +4,9 @@ use mathlib.Core.List.{List, [], _∷_}
 use Prim.Native.Nat.{ℕ}
 use types.Run.{OneOf, miss}
 use denote.Enum.Declared.{tagOf}
-use Rattle.framer.proofs.Answer.{the-type}
-use Rattle.framer.specs.declared.Place.{Place}
+use Rattle.taking.specs.declared.Place.{Place}
 use Rattle.framer.specs.declared.Answer.{Answer, the-variants.{UbxFrame, RtcmFrame, Sentence, WrongSum, NoRoom, NeedMore, Refused}}
+use Rattle.framer.proofs.Answer.{the-type}
 use Rattle.stamp.specs.declared.Clock.{Clock}
 use Rattle.stamp.specs.Stamp.{read}
 use Rattle.stamp.specs.Step.{payloadOf, nothing, frame, tells}

@@ -2,7 +2,7 @@
 use mathlib.Core.Path.{sym, ap, _∙_}
 use mathlib.Core.Bool.{not}
 use borrow.Author.Tests.{lt-ltb, le-ltb, eq-eqb, ne-eqb}
-use Rattle.framer.proofs.Granted.{any-here, any-next, any-last}
+use Rattle.state.proofs.Granted.{any-here, any-next, any-last}
 use Rattle.writer.specs.Refusals.{isBad}
 use borrow.Author.Needs.{needs}
 use Rattle.writer.proofs.is_bad.Statement.{statement}

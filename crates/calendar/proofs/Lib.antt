@@ -1,0 +1,3 @@
+pub mod Calendar
+pub mod Days
+pub mod Ranges

@@ -1,0 +1,3 @@
+pub mod Calendar
+pub mod Ranges
+pub mod Days

@@ -1,0 +1,16 @@
+-- `words::no_mode` meets its contract.
+use borrow.Author.Tests.{eq-eqb, ne-eqb}
+use Rattle.window.specs.Pick.{pick}
+use Rattle.words.proofs.no_mode.Statement.{statement}
+use Rattle.words.proofs.no_mode.Tie as tie
+
+returns : tie.Need-returns
+unfolding pick
+returns c = rw (eq-eqb _ _ (c .if1 .taken))
+
+returns-2 : tie.Need-returns-2
+unfolding pick
+returns-2 c = rw (ne-eqb _ _ (c .if1 .left))
+
+pub no-mode-spec : {M : Type 1} → statement M
+no-mode-spec = tie.close (tie.spec returns returns-2)

@@ -1,0 +1,99 @@
+-- The words in which a state and an answer cross to C: include/orgnevis.h says the same to a C programmer.
+use Prim.Native.Nat.{ℕ}
+use mathlib.Core.Bool.{Bool, true, false}
+use mathlib.Core.List.{List, [], _∷_}
+use lib.ListN.{getD, replicate}
+use lib.Seq.{sets}
+use lib.Dec.{ltb, eqb}
+use Rattle.window.specs.declared.Mode.{Mode, the-variants.{One, Two, Three}}
+use Rattle.window.specs.Pick.{pick}
+use Rattle.state.specs.declared.State.{State}
+use Rattle.state.specs.Refusals.{anyOf, refusalNo, leaveNo}
+use Rattle.taking.specs.declared.Place.{Place}
+use Rattle.framer.specs.declared.Answer.{Answer, the-variants.{UbxFrame, RtcmFrame, Sentence, WrongSum, NoRoom, NeedMore, Refused}}
+use Rattle.framer.specs.declared.Closed.{Closed}
+use Rattle.framer.specs.Answers.{sideNo}
+use Rattle.words.specs.declared.Read.{Read, the-variants.{Is, NoState}}
+
+-- ---- a state: nine words, in the order of the header; those after them are left as they are
+
+abbrev pub modeNo : Mode → ℕ
+modeNo One = 1
+modeNo Two = 2
+modeNo Three = 3
+
+abbrev pub openNo : Bool → ℕ
+openNo true = 1
+openNo false = 0
+
+abbrev pub stateWords : State → List ℕ
+stateWords s = modeNo (s .mode) ∷ s .max ∷ s .cap ∷ s .live ∷ s .off ∷ s .used ∷ openNo (s .«open») ∷ s .chunk ∷ s .part ∷ []
+
+-- stored from word 0 on
+abbrev pub withState : State → List ℕ → List ℕ
+withState s words = sets words 0 (stateWords s)
+
+-- the words that an opening, a step and a close change
+abbrev pub openedWords : State → List ℕ → List ℕ
+openedWords s words = sets words 4 (s .off ∷ s .used ∷ 1 ∷ s .chunk ∷ s .part ∷ [])
+
+abbrev pub steppedWords : State → List ℕ → List ℕ
+steppedWords s words = sets (sets words 3 (s .live ∷ s .off ∷ s .used ∷ [])) 8 (s .part ∷ [])
+
+abbrev pub closedWords : ℕ → List ℕ → List ℕ
+closedWords kept words = sets words 3 (kept ∷ 0 ∷ 0 ∷ 0 ∷ 0 ∷ 0 ∷ [])
+
+-- a mode's number, and words that no state has: another mode, MAX over 65,535, open not 0 or 1
+abbrev pub modeBy : ℕ → Mode
+modeBy n = pick (eqb n 1) One (pick (eqb n 2) Two Three)
+
+abbrev pub noMode : ℕ → Bool
+noMode n = pick (eqb n 0) true (ltb 3 n)
+
+abbrev pub noState : List ℕ → Bool
+noState words = anyOf (noMode (getD words 0 0) ∷ ltb 65535 (getD words 1 0) ∷ ltb 1 (getD words 6 0) ∷ [])
+
+abbrev pub stateBy : List ℕ → State
+stateBy words = record {
+  mode = modeBy (getD words 0 0);
+  max = getD words 1 0;
+  cap = getD words 2 0;
+  live = getD words 3 0;
+  off = getD words 4 0;
+  used = getD words 5 0;
+  «open» = eqb (getD words 6 0) 1;
+  chunk = getD words 7 0;
+  part = getD words 8 0;
+}
+
+unfoldable pub readState : List ℕ → Read
+readState words = pick (noState words) NoState (Is (stateBy words))
+
+-- ---- a step's answer: eight words
+
+abbrev pub frameWords : ℕ → ℕ → ℕ → ℕ → Place → List ℕ
+frameWords number p class id place = number ∷ p ∷ class ∷ id ∷ sideNo (place .side) ∷ place .start ∷ place .len ∷ 0 ∷ []
+
+abbrev pub plainWords : ℕ → ℕ → ℕ → ℕ → List ℕ
+plainWords number p x y = number ∷ p ∷ x ∷ y ∷ 0 ∷ 0 ∷ 0 ∷ 0 ∷ []
+
+-- the two sums, then class, id and length of the head
+abbrev pub wrongWords : ℕ → ℕ → ℕ → ℕ → ℕ → ℕ → List ℕ
+wrongWords p class id n expect got = 4 ∷ p ∷ expect ∷ got ∷ class ∷ id ∷ n ∷ 0 ∷ []
+
+abbrev pub answerWords : Answer → List ℕ
+answerWords (UbxFrame class id p place) = frameWords 1 p class id place
+answerWords (RtcmFrame p place) = frameWords 2 p 0 0 place
+answerWords (Sentence p place) = frameWords 3 p 0 0 place
+answerWords (WrongSum class id n p expect got) = wrongWords p class id n expect got
+answerWords (NoRoom p size) = plainWords 5 p size 0
+answerWords NeedMore = plainWords 6 0 0 0
+answerWords (Refused r) = plainWords 7 0 (refusalNo r) 0
+
+-- ---- a close's report: sixteen words
+
+abbrev pub reportWords : ℕ → ℕ → ℕ → ℕ → List ℕ
+reportWords number used kept lost = number ∷ used ∷ kept ∷ lost ∷ replicate 12 0
+
+abbrev pub closeWords : Closed → List ℕ
+closeWords r = reportWords (leaveNo (r .leave)) (r .used) (r .kept) (r .lost)
