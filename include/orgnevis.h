@@ -17,7 +17,8 @@
  *
  * From open to close, lend the same chunk, unchanged, to every call. The carry's bytes are the
  * framer's from start on: read them, but don't write them. With C of at least MAX + 7 (and at least
- * 1,026 with RTCM) modes one and two lose nothing, however the line cuts the stream.
+ * 1,026 with RTCM, 1,029 with parity) modes one and two lose nothing, however the line cuts the
+ * stream.
  *
  * No input does harm. A state of any 24 words, lengths that don't fit it, calls in a wrong order:
  * such a call is refused by number, and then no word of the state and no lent byte has changed.
@@ -37,9 +38,15 @@ extern "C" {
  * a longer one is passed over in silence. */
 enum { ORGNEVIS_UBX = 1, ORGNEVIS_UBX_RTCM = 2, ORGNEVIS_UBX_RTCM_NMEA = 3 };
 
+/* Added to a mode, it has RTCM frames read with their three parity bytes, and checked by them: one
+ * that is whole is handed out only if its parity (CRC-24Q) is right, so that a stray D3 takes no
+ * frame with it but by a chance of 24 bits. Without it a frame ends before its parity, which is
+ * passed over as noise. ORGNEVIS_UBX, which reads no RTCM frames, is the same with it. */
+enum { ORGNEVIS_PARITY = 16 };
+
 /* The words of a state. Words 9 to 23 are kept for later and left as they are. */
 enum {
-    ORGNEVIS_MODE = 0,         /* one of the modes */
+    ORGNEVIS_MODE = 0,         /* one of the modes, with ORGNEVIS_PARITY or without */
     ORGNEVIS_MAX = 1,          /* the payload limit */
     ORGNEVIS_C = 2,            /* the carry's length */
     ORGNEVIS_LIVE = 3,         /* so many first bytes of the carry hold data */
@@ -55,12 +62,13 @@ enum {
  *
  *   out[0]                 [1]       [2]      [3]   [4]   [5]    [6]
  *   ORGNEVIS_UBX_FRAME     position  class    id    side  start  length   payload, 2 check bytes
- *   ORGNEVIS_RTCM_FRAME    position                 side  start  length   from D3 on, no parity
+ *   ORGNEVIS_RTCM_FRAME    position                 side  start  length   from D3 on, see PARITY
  *   ORGNEVIS_SENTENCE      position                 side  start  length   from $ to CR LF
  *   ORGNEVIS_WRONG_SUM     position  expect   got   class id     n        the received, the true sum
  *   ORGNEVIS_NO_ROOM       position  size                                 the carry is too small
  *   ORGNEVIS_NEED_MORE                                                    close, and read on
  *   ORGNEVIS_REFUSAL                 number                               nothing has changed
+ *   ORGNEVIS_WRONG_PARITY  position  expect   got                         received, and true parity
  *
  * The position is that of the sync byte, counted from open; add the `used` of all earlier closes and
  * it is a position in the stream.
@@ -77,7 +85,8 @@ enum {
     ORGNEVIS_WRONG_SUM = 4,
     ORGNEVIS_NO_ROOM = 5,
     ORGNEVIS_NEED_MORE = 6,
-    ORGNEVIS_REFUSAL = 7
+    ORGNEVIS_REFUSAL = 7,
+    ORGNEVIS_WRONG_PARITY = 8
 };
 
 enum { ORGNEVIS_CARRY = 0, ORGNEVIS_CHUNK = 1 };
@@ -91,7 +100,7 @@ enum {
     ORGNEVIS_CHUNK_TOO_LONG = 5, /* open: a chunk of over 16,384 bytes */
     ORGNEVIS_OTHER_CHUNK = 6,    /* step, close: not the length of the chunk it was opened on */
     ORGNEVIS_BAD_PLACE = 7,      /* view: start + length passes the end of its side */
-    ORGNEVIS_NO_SUCH_MODE = 8    /* start: a mode that is not 1, 2 or 3 */
+    ORGNEVIS_NO_SUCH_MODE = 8    /* start: a mode that is not 1, 2, 3, 17, 18 or 19 */
 };
 
 /* An idle state with C the carry's length, nothing live. Answers 0 or a refusal: after 1 the state is

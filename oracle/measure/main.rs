@@ -12,7 +12,7 @@ mod table;
 
 use case::Case;
 use gauge::Gauge;
-use rows::{Row, ROWS};
+use rows::{Row, ROWS, WITH_PARITY};
 use table::Table;
 
 const SIZES: [usize; 3] = [64, 1024, 16_384];
@@ -47,10 +47,15 @@ impl Options {
 
     fn rows(&self) -> Result<Vec<&'static Row>, String> {
         let Some(name) = &self.row else { return Ok(ROWS.iter().collect()) };
-        let row = ROWS.iter().find(|row| row.name == name);
-        let names = || ROWS.iter().map(|row| row.name).collect::<Vec<_>>().join("; ");
+        let row = all_rows().find(|row| row.name == name);
+        let names = || all_rows().map(|row| row.name).collect::<Vec<_>>().join("; ");
         Ok(vec![row.ok_or_else(|| format!("there is no row {name}; the rows are: {}", names()))?])
     }
+}
+
+/// The table's rows, and the one below it.
+fn all_rows() -> impl Iterator<Item = &'static Row> {
+    ROWS.iter().chain([&WITH_PARITY])
 }
 
 /// Why a run ended early, and the exit status for it.
@@ -72,13 +77,26 @@ fn run() -> Result<(), Ended> {
         return show_functions(&options, &rows, &mut gauge);
     }
     let mut table = Table::begin(gauge.unit(), &SIZES);
-    for row in rows {
+    for row in rows.iter().filter(|row| row.name != WITH_PARITY.name) {
         let stream = row.stream();
         let cost = |size| Case::new(row, &stream, size, options.view).measure(&mut gauge);
         let costs: Result<Vec<_>, _> = SIZES.into_iter().map(cost).collect();
         table.put(row.name, &SIZES, &costs.map_err(differs)?);
     }
     table.end();
+    if options.row.as_ref().is_none_or(|name| name == WITH_PARITY.name) {
+        put_parity(&options, &mut gauge).map_err(differs)?;
+    }
+    Ok(())
+}
+
+/// The row with parity: beside the Rust without it, and beside the library without it.
+fn put_parity(options: &Options, gauge: &mut Gauge) -> Result<(), String> {
+    let stream = WITH_PARITY.stream();
+    let mut cases = SIZES.map(|size| Case::new(&WITH_PARITY, &stream, size, options.view));
+    let rust: Result<Vec<_>, _> = cases.iter_mut().map(|case| case.measure(gauge)).collect();
+    let library: Vec<_> = cases.iter_mut().map(|case| case.measure_parity(gauge)).collect();
+    table::put_parity(WITH_PARITY.name, &rust?, &library);
     Ok(())
 }
 

@@ -1,6 +1,7 @@
 //! The rows of the table: what each stream is made of.
 
 use crate::random::Random;
+use ublox_framing::parity::crc24q;
 
 /// Every stream has about so many bytes: few enough to stay in a processor's cache.
 const STREAM: usize = 262_144;
@@ -24,6 +25,11 @@ pub const ROWS: &[Row] = &[
     Row { name: "UBX and NMEA", mode: 3, piece: ubx_and_nmea },
     Row { name: "false heads", mode: 1, piece: false_head },
 ];
+
+/// The row with parity, which the Rust has not: it stands below the table, beside the same stream framed
+/// without.
+pub const WITH_PARITY: Row =
+    Row { name: "UBX and RTCM with parity", mode: 18, piece: ubx_and_rtcm_with_parity };
 
 impl Row {
     /// The row's stream, the same at every run.
@@ -88,6 +94,22 @@ fn ubx_and_rtcm(random: &mut Random, to: &mut Vec<u8>) {
     let n = random.between(40, 299);
     to.extend_from_slice(&[0xD3, (n / 256) as u8, (n % 256) as u8]);
     noise(random, to, n + 3);
+}
+
+/// The same with right parities. A frame whose parity has a sync byte is left out, so that who passes
+/// over these bytes as noise finds the same frames.
+fn ubx_and_rtcm_with_parity(random: &mut Random, to: &mut Vec<u8>) {
+    ubx(random, to, 92);
+    let n = random.between(40, 299);
+    let from = to.len();
+    to.extend_from_slice(&[0xD3, (n / 256) as u8, (n % 256) as u8]);
+    noise(random, to, n);
+    let [_, parity @ ..] = crc24q(to[from..].iter().copied()).to_be_bytes();
+    if parity.iter().any(|byte| [0xB5, 0xD3].contains(byte)) {
+        to.truncate(from);
+    } else {
+        to.extend_from_slice(&parity);
+    }
 }
 
 /// A frame of 100 bytes, then a sentence of 73 bytes.

@@ -8,11 +8,14 @@ const MAX: u16 = 1240;
 pub const CARRY: usize = 2048;
 
 const UBX_FRAME: u64 = 1;
-const RTCM_FRAME: u64 = 2;
+pub const RTCM_FRAME: u64 = 2;
 const SENTENCE: u64 = 3;
 const WRONG_SUM: u64 = 4;
 const NO_ROOM: u64 = 5;
 const NEED_MORE: u64 = 6;
+const WRONG_PARITY: u64 = 8;
+/// What a mode with parity has more in its number.
+pub const PARITY: u64 = 16;
 const UBX_CHECKSUM_LEN: usize = 2;
 
 /// Where answers go: a frame with its body (a UBX frame's is its payload); an answer without one; the
@@ -190,7 +193,7 @@ unsafe fn steps<const VIEW: bool, E: Ear>(
                 let body = from.wrapping_add(start as usize);
                 ear.frame(kind, x as u8, y as u8, body, size as usize - check_bytes);
             }
-            WRONG_SUM | NO_ROOM => ear.plain(kind, x, y),
+            WRONG_SUM | NO_ROOM | WRONG_PARITY => ear.plain(kind, x, y),
             NEED_MORE => return,
             _ => panic!("the library answered {out:?}"),
         }

@@ -21,22 +21,39 @@ impl Table {
 
     /// A row, with a cost for each size.
     pub fn put(&mut self, name: &'static str, sizes: &[usize], costs: &[Cost]) {
-        print!("{name:20}");
-        for (size, cost) in sizes.iter().zip(costs) {
-            let each = |total: u64| total as f64 / cost.bytes as f64;
-            print!("{:10.3}{:8.3}{:8.2}", each(cost.rust), each(cost.library), cost.ratio());
-            self.ratios.push((name, *size, cost.ratio()));
-        }
-        println!();
+        put_costs(name, costs);
+        let ratios = sizes.iter().zip(costs).map(|(size, cost)| (name, *size, cost.ratio()));
+        self.ratios.extend(ratios);
     }
 
+    /// The mean and the worst of the rows; nothing where there was none.
     pub fn end(&self) {
+        if self.ratios.is_empty() {
+            return;
+        }
         let logs: f64 = self.ratios.iter().map(|(_, _, ratio)| ratio.ln()).sum();
         let mean = (logs / self.ratios.len() as f64).exp();
         let worst = self.ratios.iter().min_by(|a, b| a.2.total_cmp(&b.2));
         let (name, size, ratio) = worst.expect("a row");
         println!("\ngeometric mean {mean:.2}, worst {ratio:.2} ({name}, chunks of {size})");
     }
+}
+
+fn put_costs(name: &str, costs: &[Cost]) {
+    print!("{name:20}");
+    for cost in costs {
+        let each = |total: u64| total as f64 / cost.bytes as f64;
+        print!("{:10.3}{:8.3}{:8.2}", each(cost.rust), each(cost.library), cost.ratio());
+    }
+    println!();
+}
+
+/// The row with parity, below the table and not in its mean: the library in mode 18 beside the Rust in
+/// mode 2, and beside itself in mode 2, on the same stream.
+pub fn put_parity(name: &str, rust: &[Cost], library: &[Cost]) {
+    println!("\n{name}, beside the same stream without parity, which the Rust has not");
+    put_costs("the Rust, no parity", rust);
+    put_costs("library, no parity", library);
 }
 
 /// Where the instructions of both sides go, for each answer and for each chunk; what is under a

@@ -10,7 +10,7 @@ use Rattle.look.specs.declared.Sight.{Sight, the-variants.{Pass, Say}}
 use Rattle.look.specs.declared.Verdict.{Verdict, the-variants.{Wait, Tell, Hand}}
 use Rattle.look.specs.Rules.{skip, size, far}
 use Rattle.look.specs.Moves.{cost}
-use Rattle.look.specs.Passed.{whole, Says, Moves}
+use Rattle.look.specs.Within.{whole, Says, Moves}
 use Rattle.look.proofs.Within.{move-in}
 use Rattle.state.specs.declared.State.{State}
 use Rattle.state.specs.Words.{leftLen, window, width, drain}

@@ -8,7 +8,7 @@ use Rattle.state.specs.declared.Leave.{Leave, the-variants.{Granted, Denied}}
 use Rattle.state.specs.Refusals.{refusalNo, leaveNo}
 use Rattle.taking.specs.declared.Side.{Side, the-variants.{Carry, Chunk}}
 use Rattle.taking.specs.declared.Place.{Place}
-use Rattle.framer.specs.declared.Answer.{Answer, the-variants.{UbxFrame, RtcmFrame, Sentence, WrongSum, NoRoom, NeedMore, Refused}}
+use Rattle.framer.specs.declared.Answer.{Answer, the-variants.{UbxFrame, RtcmFrame, Sentence, WrongSum, NoRoom, NeedMore, Refused, WrongParity}}
 use Rattle.framer.specs.declared.Opened.{Opened}
 use Rattle.framer.specs.declared.Stepped.{Stepped}
 use Rattle.framer.specs.declared.Closed.{Closed}
@@ -66,10 +66,11 @@ answersBy vs =
     ∷ WrongSum (getD vs 3 0) (getD vs 4 0) (getD vs 5 0) (getD vs 0 0) (getD vs 1 0) (getD vs 2 0)
     ∷ NoRoom (getD vs 0 0) (getD vs 1 0)
     ∷ NeedMore
+    ∷ Refused (refusalBy (getD vs 0 0))
     ∷ []
 
 abbrev answerBy : ℕ → List ℕ → Answer
-answerBy n vs = getD (answersBy vs) n (Refused (refusalBy (getD vs 0 0)))
+answerBy n vs = getD (answersBy vs) n (WrongParity (getD vs 0 0) (getD vs 1 0) (getD vs 2 0))
 
 answer-back : (a : Answer) → answerBy (number a) (values a) ≡ a
 answer-back (UbxFrame class id p place) = rw (side-back (place .side))
@@ -78,6 +79,7 @@ answer-back (Sentence p place) = rw (side-back (place .side))
 answer-back (WrongSum class id n p expect got) = refl
 answer-back (NoRoom p size) = refl
 answer-back NeedMore = refl
+answer-back (WrongParity p expect got) = refl
 answer-back (Refused r) = ap Refused (refusal-back r)
 
 pub same-answer : (a b : Answer) → number a ≡ number b → values a ≡ values b → a ≡ b

@@ -7,7 +7,7 @@ use lib.ListN.{length}
 use Rattle.look.specs.declared.Kind.{Kind}
 use Rattle.look.specs.declared.Verdict.the-variants.{Hand}
 use Rattle.look.specs.Rules.{skip, size}
-use Rattle.look.specs.Passed.{Says}
+use Rattle.look.specs.Within.{Says}
 use Rattle.state.specs.declared.State.{State}
 use Rattle.state.specs.Words.{leftLen, width, drain}
 use Rattle.state.specs.Ready.{Ready, Room}

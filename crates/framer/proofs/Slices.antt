@@ -2,6 +2,7 @@
 use mathlib.Core.Path.{_≡_, sym, ap, _∙_}
 use mathlib.Core.List.{List, _++_}
 use mathlib.Core.Bool.{true}
+use mathlib.Core.Logic.{inl}
 use Prim.Native.Nat.{ℕ, _+_, _-_, _≤_, _<_}
 use native.Mathlib.Omega.{arith}
 use native.Mathlib.Nat.{add-zero}
@@ -11,11 +12,12 @@ use Rattle.carry.proofs.Laws.{drop-take}
 use Rattle.window.specs.Sync.{isSync, firstSync}
 use Rattle.window.proofs.Laws.{from, joined-left, first-here}
 use Rattle.look.specs.declared.Verdict.{Verdict}
-use Rattle.look.specs.Passed.{Stops}
+use Rattle.seek.specs.Passed.{Stops}
+use Rattle.seek.specs.OneSide.{Begins}
 use Rattle.state.specs.declared.State.{State}
 use Rattle.state.specs.Words.{left, leftLen, ahead, window}
 use Rattle.state.specs.Ready.{Sane}
-use Rattle.state.proofs.Window.{left-length}
+use Rattle.state.proofs.Window.{left-length, window-length}
 
 pub left-part : (l : List ℕ) (off live : ℕ) → off ≤ live → take (live - off) (drop off l) ≡ drop off (take live l)
 left-part l off live h =
@@ -26,6 +28,16 @@ pub stops-window : (s : State) (carry chunk : List ℕ) → Sane s carry chunk �
     → Stops (s .mode) (s .max) (s .cap) (length (take (s .live - s .off) (drop (s .off) carry))) (take (s .live - s .off) (drop (s .off) carry) ++ take (length chunk - s .part) (drop (s .part) chunk)) k v
     → Stops (s .mode) (s .max) (s .cap) (leftLen s) (window s carry chunk) k v
 stops-window s carry chunk ok k v st = rw (left-part carry (s .off) (s .live) (ok .offs), from chunk (s .part), left-length s carry chunk ok) at st
+
+-- and the window begins with the first of them
+pub begins-window : (s : State) (carry chunk : List ℕ) → Sane s carry chunk
+    → Begins (take (s .live - s .off) (drop (s .off) carry)) (window s carry chunk) (leftLen s) (leftLen s + (s .chunk - s .part))
+begins-window s carry chunk ok = record {
+  rest = ahead s chunk;
+  joined = ap (λ (l : List ℕ). l ++ ahead s chunk) (sym (left-part carry (s .off) (s .live) (ok .offs)));
+  width = window-length s carry chunk ok;
+  side = inl (sym (left-length s carry chunk ok) ∙ ap length (sym (left-part carry (s .off) (s .live) (ok .offs))));
+}
 
 -- where what is left of the carry begins with a sync byte, that is the window's first
 pub syncs-at-once : (s : State) (carry chunk : List ℕ) → Sane s carry chunk → s .off < s .live → isSync (s .mode) (getD carry (s .off) 0) ≡ true

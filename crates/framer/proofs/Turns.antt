@@ -4,14 +4,16 @@ use mathlib.Core.List.{List}
 use Prim.Native.Nat.{ℕ, zero, suc, _-_, _≤_, _<_}
 use native.Mathlib.Omega.{arith}
 use Rattle.look.specs.declared.Sight.{Sight, the-variants.{Pass, Say}}
-use Rattle.look.specs.declared.Verdict.{Verdict}
+use Rattle.look.specs.declared.Verdict.{Verdict, the-variants.{Wait}}
 use Rattle.look.specs.Rules.{far}
-use Rattle.look.specs.Passed.{moveAt, Passed, start, turn, Stops, Says, Moves}
+use Rattle.look.specs.Within.{Says, Moves}
+use Rattle.seek.specs.Passed.{moveAt, Passed, start, turn, Stops}
 use Rattle.state.specs.declared.State.{State}
 use Rattle.state.specs.Words.{leftLen, window, width, drain}
 use Rattle.state.specs.Ready.{Sane}
 use Rattle.state.proofs.Window.{window-drain, drain-sane, drain-zero, drain-drain}
-use Rattle.framer.specs.Step.{StepOut, say, act, moveOf, stepBy, stepFrom}
+use Rattle.framer.specs.declared.Answer.the-variants.{NeedMore}
+use Rattle.framer.specs.Step.{StepOut, out, say, act, moveOf, stepBy, stepFrom}
 use Rattle.framer.proofs.Account.{moves-in}
 
 module _ (carry chunk : List ℕ) where
@@ -52,6 +54,10 @@ module _ (carry chunk : List ℕ) where
           omega (arith, ih .0, inn .1),
           ih .1 ∙ step-turn (drain k s) sane ∙ rw mv (ap (λ (x : State). stepFrom x carry chunk) (drain-drain k (far y) n s q)),
         )
+
+    -- where nothing is passed, and more is needed, the step changes nothing
+    pub waits-step : moveOf s carry chunk ≡ Say (Wait 0) → stepFrom s carry chunk ≡ out NeedMore s carry
+    waits-step e = step-turn s ok ∙ rw e (ap (λ (x : State). out NeedMore x carry) (drain-zero s))
 
     module _ (k : ℕ) (v : Verdict) (st : Stops (s .mode) (s .max) (s .cap) (leftLen s) (window s carry chunk) k v) where
       pub stops-within : k ≤ width s

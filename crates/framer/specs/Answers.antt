@@ -1,11 +1,11 @@
 -- 01, "Language forms": the number and the values of each answer. 01 numbers the refusals; the answers' numbers follow the
--- order in which "Forms that must change" names them.
+-- order in which "Forms that must change" names them. 02, Ticket 4, adds the last.
 use Prim.Native.Nat.{ℕ}
 use mathlib.Core.List.{List, [], _∷_}
 use Rattle.state.specs.Refusals.{refusalNo}
 use Rattle.taking.specs.declared.Side.{Side, the-variants.{Carry, Chunk}}
 use Rattle.taking.specs.declared.Place.{Place}
-use Rattle.framer.specs.declared.Answer.{Answer, the-variants.{UbxFrame, RtcmFrame, Sentence, WrongSum, NoRoom, NeedMore, Refused}}
+use Rattle.framer.specs.declared.Answer.{Answer, the-variants.{UbxFrame, RtcmFrame, Sentence, WrongSum, NoRoom, NeedMore, Refused, WrongParity}}
 
 abbrev pub sideNo : Side → ℕ
 sideNo Carry = 0
@@ -22,6 +22,7 @@ number (WrongSum class id n p expect got) = 4
 number (NoRoom p size) = 5
 number NeedMore = 6
 number (Refused r) = 7
+number (WrongParity p expect got) = 8
 
 -- position first, where there is one
 abbrev pub values : Answer → List ℕ
@@ -32,3 +33,4 @@ values (WrongSum class id n p expect got) = p ∷ expect ∷ got ∷ class ∷ i
 values (NoRoom p size) = p ∷ size ∷ []
 values NeedMore = []
 values (Refused r) = refusalNo r ∷ []
+values (WrongParity p expect got) = p ∷ expect ∷ got ∷ []

@@ -1,4 +1,4 @@
--- 01, "Bench set" and "Errors a porter is likely to make", each as one table of calls and what they answer.
+-- 01, "Bench set" and "Errors a porter is likely to make", and 02, Ticket 4, each as one table of calls and what they answer.
 use Prim.Native.Nat.{ℕ}
 use mathlib.Core.Bool.{Bool, true, false, _&&_}
 use mathlib.Core.List.{List, [], _∷_, _++_}
@@ -75,8 +75,15 @@ more = 6 ∷ []
 abbrev pub closed : ℕ → ℕ → ℕ → List ℕ
 closed used kept lost = 0 ∷ used ∷ kept ∷ lost ∷ []
 
-abbrev pub row : Mode → ℕ → ℕ → List Call → List (List ℕ) → Row
-row m x c ks es = record { mode = m; max = x; cap = c; calls = ks; answers = es }
+abbrev pub rowOf : Bool → (Bool → Mode) → ℕ → ℕ → List Call → List (List ℕ) → Row
+rowOf parity mode x c ks es = record { mode = mode parity; max = x; cap = c; calls = ks; answers = es }
+
+-- in the crate's reading, and with parity
+abbrev pub row : (Bool → Mode) → ℕ → ℕ → List Call → List (List ℕ) → Row
+row = rowOf false
+
+abbrev pub checked : (Bool → Mode) → ℕ → ℕ → List Call → List (List ℕ) → Row
+checked = rowOf true
 
 -- T is B5 62 0A 04 00 00 0E 34; MAX 16, C 23, mode one unless said
 abbrev pub benchSet : List Row
@@ -125,4 +132,23 @@ portersErrors =
     ∷ row One 16 23 (opens (0xB5 ∷ 0x62 ∷ 0xB5 ∷ 0x62 ∷ 0x11 ∷ 0x00 ∷ 0x01 ∷ 0x00 ∷ 0xAA ∷ []) ∷ closes ∷ opens (0xBC ∷ 0x02 ∷ 0x07 ∷ []) ∷ steps ∷ shows ∷ [])
     (ok ∷ closed 0 9 0 ∷ ok ∷ (1 ∷ 2 ∷ 0x11 ∷ 0x00 ∷ 0 ∷ 8 ∷ 3 ∷ [])
     ∷ (0xB5 ∷ 0x62 ∷ 0xB5 ∷ 0x62 ∷ 0x11 ∷ 0x00 ∷ 0x01 ∷ 0x00 ∷ 0xAA ∷ 0xBC ∷ 0x02 ∷ 0x07 ∷ replicate 11 0) ∷ [])
+    ∷ []
+
+-- a frame with message 1230, as a receiver sent it, without the last byte of its parity, 2A
+abbrev pub message1230 : List ℕ
+message1230 = 0xD3 ∷ 0x00 ∷ 0x08 ∷ 0x4C ∷ 0xE0 ∷ 0x00 ∷ 0x8A ∷ 0x00 ∷ 0x00 ∷ 0x00 ∷ 0x00 ∷ 0xA8 ∷ 0xF7 ∷ []
+
+-- MAX 16, modes two and three
+abbrev pub parityRows : List Row
+parityRows =
+    -- a frame of n + 6 bytes, in one piece and cut
+    checked Two 16 1029 (opens (message1230 ++ 0x2A ∷ []) ∷ steps ∷ steps ∷ []) (ok ∷ (2 ∷ 0 ∷ 1 ∷ 0 ∷ 14 ∷ []) ∷ more ∷ [])
+    ∷ checked Three 16 1029 (opens message1230 ∷ steps ∷ closes ∷ opens (0x2A ∷ []) ∷ steps ∷ []) (ok ∷ more ∷ closed 0 13 0 ∷ ok ∷ (2 ∷ 0 ∷ 0 ∷ 0 ∷ 14 ∷ []) ∷ [])
+    -- a wrong parity is told, received and computed, and drains 1
+    ∷ checked Two 16 1029 (opens (message1230 ++ 0x2B ∷ []) ∷ steps ∷ closes ∷ []) (ok ∷ (8 ∷ 0 ∷ 0xA8F72B ∷ 0xA8F72A ∷ []) ∷ closed 1 13 0 ∷ [])
+    -- D3 00 01 before T: without parity it takes T's first byte, with parity T is handed out at 3
+    ∷ row Two 16 23 (opens (0xD3 ∷ 0x00 ∷ 0x01 ∷ frameT) ∷ steps ∷ steps ∷ []) (ok ∷ (2 ∷ 0 ∷ 1 ∷ 0 ∷ 4 ∷ []) ∷ more ∷ [])
+    ∷ checked Two 16 23 (opens (0xD3 ∷ 0x00 ∷ 0x01 ∷ frameT) ∷ steps ∷ steps ∷ []) (ok ∷ (8 ∷ 0 ∷ 0x620A04 ∷ 0xE56A53 ∷ []) ∷ (1 ∷ 3 ∷ 0x0A ∷ 0x04 ∷ 1 ∷ 9 ∷ 2 ∷ []) ∷ [])
+    -- no room reports n + 6
+    ∷ checked Two 16 3 (opens (0xD3 ∷ 0x00 ∷ 0x01 ∷ []) ∷ steps ∷ closes ∷ opens (0xAA ∷ []) ∷ steps ∷ []) (ok ∷ more ∷ closed 0 3 0 ∷ ok ∷ (5 ∷ 0 ∷ 7 ∷ []) ∷ [])
     ∷ []

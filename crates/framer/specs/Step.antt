@@ -3,7 +3,7 @@ use Prim.Native.Nat.{ℕ, zero, suc}
 use mathlib.Core.List.{List}
 use lib.ListN.{length}
 use Rattle.look.specs.declared.Kind.{Kind, the-variants.{Ubx, Rtcm, Sentence as KindSentence}}
-use Rattle.look.specs.declared.Tale.{Tale, the-variants.{WrongSum as TaleWrongSum, NoRoom as TaleNoRoom}}
+use Rattle.look.specs.declared.Tale.{Tale, the-variants.{WrongSum as TaleWrongSum, WrongParity as TaleWrongParity, NoRoom as TaleNoRoom}}
 use Rattle.look.specs.declared.Verdict.{Verdict, the-variants.{Wait, Tell, Hand}}
 use Rattle.look.specs.declared.Sight.{Sight, the-variants.{Pass, Say}}
 use Rattle.look.specs.Rules.{skip, size, far}
@@ -14,7 +14,7 @@ use Rattle.state.specs.Words.{leftLen, window, width, drain}
 use Rattle.state.specs.Refusals.{mayUse}
 use Rattle.taking.specs.declared.Place.{Place}
 use Rattle.taking.specs.Take.{TakeOut, taking}
-use Rattle.framer.specs.declared.Answer.{Answer, the-variants.{UbxFrame, RtcmFrame, Sentence, WrongSum, NoRoom, NeedMore, Refused}}
+use Rattle.framer.specs.declared.Answer.{Answer, the-variants.{UbxFrame, RtcmFrame, Sentence, WrongSum, NoRoom, NeedMore, Refused, WrongParity}}
 use Rattle.framer.specs.declared.Stepped.{Stepped}
 
 pub record StepOut : Type 0 where
@@ -27,11 +27,12 @@ out a s carry = record { result = record { answer = a; state = s }; carry = carr
 -- a frame, and an answer that hands out no bytes, at position p: that is `used` at its sync byte
 abbrev pub frameAt : Kind → ℕ → Place → Answer
 frameAt (Ubx class id n) p place = UbxFrame class id p place
-frameAt (Rtcm n) p place = RtcmFrame p place
+frameAt (Rtcm n parity) p place = RtcmFrame p place
 frameAt (KindSentence i) p place = Sentence p place
 
 abbrev pub taleAt : Tale → ℕ → Answer
 taleAt (TaleWrongSum class id n expect got) p = WrongSum class id n p expect got
+taleAt (TaleWrongParity expect got) p = WrongParity p expect got
 taleAt (TaleNoRoom drain size) p = NoRoom p size
 
 abbrev pub handOut : ℕ → Kind → TakeOut → StepOut

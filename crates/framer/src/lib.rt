@@ -3,7 +3,7 @@
 ghost use mathlib.Core.Path.{_≡_};
 ghost use Prim.Native.Nat.{_≤_};
 ghost use lib.ListN.{length};
-ghost use Rattle.look.specs.Passed.{Says};
+ghost use Rattle.look.specs.Within.{Says};
 ghost use Rattle.state.specs.declared.Leave.the-variants.{Granted};
 ghost use Rattle.state.specs.Words.{leftLen, width, drain};
 ghost use Rattle.state.specs.Ready.{Ready};
@@ -51,6 +51,11 @@ pub enum Answer {
     },
     NeedMore,
     Refused(Refusal),
+    WrongParity {
+        at: usize,
+        expect: u32,
+        got: u32,
+    },
 }
 
 pub struct Opened {
@@ -148,7 +153,7 @@ fn frame_at(kind: Kind, at: usize, place: Place) -> Answer
             at,
             place,
         },
-        Kind::Rtcm { n: _ } => Answer::RtcmFrame { at, place },
+        Kind::Rtcm { n: _, parity: _ } => Answer::RtcmFrame { at, place },
         Kind::Sentence { i: _ } => Answer::Sentence { at, place },
     }
 }
@@ -172,6 +177,7 @@ fn tale_at(tale: Tale, at: usize) -> Answer
             expect,
             got,
         },
+        Tale::WrongParity { expect, got } => Answer::WrongParity { at, expect, got },
         Tale::NoRoom { drain: _, size } => Answer::NoRoom { at, size },
     }
 }
@@ -208,7 +214,7 @@ fn said(s: State, carry: &mut [u8], chunk: &[u8], skip: usize, v: Verdict) -> St
     }
 }
 
-// A step that is not refused.
+// A step that is not refused. In the midst of a frame whose head is in the carry, nothing is to be looked for.
 fn step_well(s: State, carry: &mut [u8], chunk: &[u8]) -> Stepped
     requires { ⌜ Ready s (now carry) (now chunk) ⌝ }
     ensures { λ r. ⌜ r ≡ stepFrom s (now (carry .entry)) (now (chunk .entry)) .result ⌝ }
@@ -218,7 +224,22 @@ fn step_well(s: State, carry: &mut [u8], chunk: &[u8]) -> Stepped
     let off = s.off;
     let live = s.live;
     let part = s.part;
-    let stop = look::seek(mode, s.max, s.cap, &carry[off..live], &chunk[part..]);
+    let left = live - off;
+    if look::UBX_HEADER_LEN <= left {
+        if seek::is_short(
+            mode,
+            s.max,
+            s.cap,
+            &carry[off..live],
+            left + (s.chunk - part),
+        ) {
+            return Stepped {
+                answer: Answer::NeedMore,
+                state: s,
+            };
+        }
+    }
+    let stop = seek::seek(mode, s.max, s.cap, &carry[off..live], &chunk[part..]);
     let verdict = stop.verdict;
     said(s, carry, chunk, stop.skip, verdict)
 }

@@ -3,10 +3,11 @@ use mathlib.Core.Path.{_≡_, refl}
 use Prim.Native.Nat.{ℕ, _+_, _≤_, _<_}
 use native.Mathlib.Numerals.{add-one}
 use native.Mathlib.Omega.{arith}
+use mathlib.Core.Bool.{true, false}
 use mathlib.Core.List.{List, [], _∷_}
 use lib.ListN.{length, drop, getD, drop-of-length-le}
 use lib.Seq.{drop-cons}
-use Rattle.window.specs.declared.Mode.the-variants.{Three}
+use Rattle.window.specs.declared.Mode.the-variants.{One, Two, Three}
 use Rattle.window.specs.Pick.{pick}
 use Rattle.lines.specs.Text.{ascii}
 use Rattle.frames.specs.declared.Number.{Number, the-variants.{Is, No}}
@@ -43,10 +44,18 @@ letter : numberOf (ascii "24O") ≡ No
 unfolding nextOf pick
 letter = refl
 
-third : modeOf (numberOf (ascii "3")) ≡ Of Three
+third : modeOf (numberOf (ascii "3")) false ≡ Of (Three false)
 unfolding nextOf pick
 third = refl
 
-fourth : modeOf (numberOf (ascii "4")) ≡ None
+first-with-parity : modeOf (numberOf (ascii "1")) true ≡ Of (One true)
+unfolding nextOf pick
+first-with-parity = refl
+
+second-with-parity : modeOf (numberOf (ascii "2")) true ≡ Of (Two true)
+unfolding nextOf pick
+second-with-parity = refl
+
+fourth : modeOf (numberOf (ascii "4")) true ≡ None
 unfolding nextOf pick
 fourth = refl

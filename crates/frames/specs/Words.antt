@@ -1,9 +1,11 @@
--- What an argument says: a number in decimal digits, or a mode.
+-- What an argument says: a number in decimal digits, a mode, or the setting parity.
 use Prim.Native.Nat.{ℕ, _+_, _-_, _*_}
+use mathlib.Core.Bool.{Bool, true, false}
 use mathlib.Core.List.{List, [], _∷_}
 use lib.Dec.{ltb, eqb}
 use Rattle.window.specs.declared.Mode.the-variants.{One, Two, Three}
 use Rattle.window.specs.Pick.{pick}
+use Rattle.lines.specs.Text.{ascii}
 use Rattle.frames.specs.declared.Number.{Number, the-variants.{Is, No}}
 use Rattle.frames.specs.declared.Choice.{Choice, the-variants.{Of, None}}
 
@@ -24,6 +26,15 @@ abbrev pub numberOf : List ℕ → Number
 numberOf [] = No
 numberOf (d ∷ ds) = digitsTo (Is 0) (d ∷ ds)
 
-abbrev pub modeOf : Number → Choice
-modeOf No = None
-modeOf (Is n) = pick (eqb n 1) (Of One) (pick (eqb n 2) (Of Two) (pick (eqb n 3) (Of Three) None))
+-- a mode, and whether RTCM frames are read with parity
+abbrev pub modeOf : Number → Bool → Choice
+modeOf No parity = None
+modeOf (Is n) parity = pick (eqb n 1) (Of (One parity)) (pick (eqb n 2) (Of (Two parity)) (pick (eqb n 3) (Of (Three parity)) None))
+
+-- which argument MAX is: the word parity stands before it
+abbrev pub maxAt : Bool → ℕ
+maxAt true = 3
+maxAt false = 2
+
+abbrev pub parityWord : List ℕ
+parityWord = ascii "parity"

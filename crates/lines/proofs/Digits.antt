@@ -1,15 +1,18 @@
--- Decimal digits: what the kit writes is the definition's, and reading them back gives the number.
+-- Decimal digits: what the kit writes is the definition's, and reading them back gives the number. Hexadecimal ones: all but the
+-- last, and the last.
 use mathlib.Core.Path.{_≡_, refl, _∙_}
 use Prim.Native.Nat.{ℕ, zero, suc, _+_, _-_, _*_, _/_, _%_, _^_, _≤_, _<_}
 use native.Mathlib.Nat.{pow-suc, one-le-pow, pow-le-pow-right, lt-of-not-le, mod-eq-of-lt}
 use native.Mathlib.Omega.{arith}
 use mathlib.Core.List.{List, [], _∷_, _++_}
-use lib.ListN.{getD}
+use lib.ListN.{length, getD}
 use borrow.Author.Tests.{ltb-false, lt-ltb, le-ltb}
 use Rattle.io.specs.Digits.{digits, glyph, Fewest}
+use Rattle.window.specs.declared.Mode.{Mode, the-variants.{One, Two, Three}}
 use Rattle.window.specs.Pick.{pick}
 use Rattle.window.proofs.Pick.{by-pick}
-use Rattle.lines.specs.Digits.{digitsIn, decimal, readOn, read}
+use Rattle.lines.specs.Digits.{digitsIn, decimal, readOn, read, hexDigit, hex}
+use Rattle.lines.specs.Lines.{modeNo}
 
 one-digit : (f n : ℕ) → n < 10 → digitsIn (suc f) n ≡ (48 + n) ∷ []
 unfolding digitsIn pick
@@ -90,3 +93,23 @@ first-digit (suc f) n h p =
 
 pub no-zero-ahead : (n : ℕ) → n < 2 ^ 64 → 0 < n → 48 < getD (decimal n) 0 0
 no-zero-ahead n s p = first-digit 20 n (omega arith) p
+
+-- a mode's number is one digit
+
+pub mode-digit : (mode : Mode) → length (decimal (modeNo mode)) ≡ 1
+unfolding digitsIn pick
+mode-digit (One parity) = refl
+mode-digit (Two parity) = refl
+mode-digit (Three parity) = refl
+
+-- ---- hexadecimal digits
+
+pub hex-none : (places n : ℕ) → places ≡ 0 → hex places n ≡ []
+unfolding hex
+hex-none zero n e = refl
+hex-none (suc places) n e = absurd (omega arith)
+
+pub hex-more : (places n : ℕ) → (places ≡ 0 → ⊥) → hex places n ≡ hex (places - 1) (n / 16) ++ (hexDigit (n % 16) ∷ [])
+unfolding hex
+hex-more zero n some = absurd (some refl)
+hex-more (suc places) n some = let e : suc places - 1 ≡ places = omega arith in rw e

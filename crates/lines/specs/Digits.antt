@@ -28,9 +28,7 @@ read ds = readOn 0 ds
 abbrev pub hexDigit : ℕ → ℕ
 hexDigit d = getD (ascii "0123456789ABCDEF") d 0
 
--- a byte in two digits, and two bytes in four
-abbrev pub hex2 : ℕ → List ℕ
-hex2 n = hexDigit (n / 16) ∷ hexDigit (n % 16) ∷ []
-
-abbrev pub hex4 : ℕ → List ℕ
-hex4 n = hex2 (n / 256) ++ hex2 (n % 256)
+-- a number's last digits, so many of them: a byte has two, a sum four, a parity six
+unfoldable pub hex : ℕ → ℕ → List ℕ
+hex zero n = []
+hex (suc places) n = hex places (n / 16) ++ (hexDigit (n % 16) ∷ [])

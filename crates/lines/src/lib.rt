@@ -4,8 +4,8 @@ ghost use mathlib.Core.List.{_++_};
 ghost use Prim.Native.Nat.{_+_, _-_, _≤_, _<_};
 ghost use lib.ListN.{length};
 ghost use Rattle.lines.specs.Text.{ascii, Puts};
-ghost use Rattle.lines.specs.Digits.{decimal, hexDigit, hex2, hex4};
-ghost use Rattle.lines.specs.Lines.{modeNo, header, here, ubx, sums, wrong, line, totals};
+ghost use Rattle.lines.specs.Digits.{decimal, hexDigit, hex};
+ghost use Rattle.lines.specs.Lines.{modeNo, setting, header, here, ubx, wrong, wrongParity, line, totals};
 use framer::Answer;
 use window::Mode;
 
@@ -40,21 +40,17 @@ fn hex_digit(d: u8) -> u8
     b"0123456789ABCDEF"[i]
 }
 
-// A byte in two digits.
-pub fn hex2(out: &mut [u8], at: usize, n: u8) -> usize
-    requires { ⌜ at + 2 ≤ length (now out) ⌝ }
-    ensures { λ r. ⌜ Puts (hex2 n) (now (out .entry)) at (now (out .exit)) r ⌝ }
+// A number's last hexadecimal digits, so many of them, the high one first.
+pub fn hex(out: &mut [u8], at: usize, places: usize, n: u32) -> usize
+    requires { ⌜ at + places ≤ length (now out) ⌝ }
+    ensures { λ r. ⌜ Puts (hex places n) (now (out .entry)) at (now (out .exit)) r ⌝ }
+    ensures { λ r. ⌜ r ≡ at + places ⌝ }
 {
-    text(out, at, &[hex_digit(n / 16), hex_digit(n % 16)])
-}
-
-// Two bytes in four digits, the high one first.
-fn hex4(out: &mut [u8], at: usize, n: u16) -> usize
-    requires { ⌜ at + 4 ≤ length (now out) ⌝ }
-    ensures { λ r. ⌜ Puts (hex4 n) (now (out .entry)) at (now (out .exit)) r ⌝ }
-{
-    let next = hex2(out, at, (n / 256) as u8);
-    hex2(out, next, (n % 256) as u8)
+    if places == 0 {
+        return at;
+    }
+    let next = hex(out, at, places - 1, n / 16);
+    text(out, next, &[hex_digit((n % 16) as u8)])
 }
 
 // A label, and a number in decimal.
@@ -95,10 +91,22 @@ fn mode_no(mode: Mode) -> u64
     ensures { λ r. ⌜ r ≡ modeNo mode ⌝ }
 {
     match mode {
-        Mode::One => 1,
-        Mode::Two => 2,
-        Mode::Three => 3,
+        Mode::One(_) => 1,
+        Mode::Two(_) => 2,
+        Mode::Three(_) => 3,
     }
+}
+
+// The word behind the mode's number where RTCM frames are read with parity.
+fn setting(out: &mut [u8], at: usize, parity: bool) -> usize
+    requires { ⌜ at + 7 ≤ length (now out) ⌝ }
+    ensures { λ r. ⌜ Puts (setting parity) (now (out .entry)) at (now (out .exit)) r ⌝ }
+    ensures { λ r. ⌜ r ≤ at + 7 ⌝ }
+{
+    if parity {
+        return text(out, at, b" parity");
+    }
+    at
 }
 
 // The first line.
@@ -107,8 +115,9 @@ pub fn header(out: &mut [u8], at: usize, mode: Mode, max: u16, cap: usize) -> us
     ensures { λ r. ⌜ Puts (header mode max cap) (now (out .entry)) at (now (out .exit)) r ⌝ }
 {
     let a = labelled(out, at, b"mode ", mode_no(mode));
-    let b = labelled(out, a, b" max ", max as u64);
-    sized(out, b, b" carry ", cap as u64)
+    let b = setting(out, a, window::has_parity(mode));
+    let c = labelled(out, b, b" max ", max as u64);
+    sized(out, c, b" carry ", cap as u64)
 }
 
 // n - k, and 0 where that is less than 0.
@@ -124,21 +133,22 @@ fn ubx(out: &mut [u8], at: usize, class: u8, id: u8, n: u64) -> usize
     ensures { λ r. ⌜ Puts (ubx class id n) (now (out .entry)) at (now (out .exit)) r ⌝ }
 {
     let a = text(out, at, b" ubx ");
-    let b = hex2(out, a, class);
+    let b = hex(out, a, 2, class as u32);
     let c = text(out, b, b" ");
-    let d = hex2(out, c, id);
+    let d = hex(out, c, 2, id as u32);
     sized(out, d, b" len ", n)
 }
 
-// The two sums behind a position.
-fn sums(out: &mut [u8], at: usize, expect: u16, got: u16) -> usize
-    requires { ⌜ at + 25 ≤ length (now out) ⌝ }
-    ensures { λ r. ⌜ Puts (sums expect got) (now (out .entry)) at (now (out .exit)) r ⌝ }
+// Two numbers in hexadecimal, what was received and what was computed.
+fn compared(out: &mut [u8], at: usize, label: &[u8], places: usize, expect: u32, got: u32) -> usize
+    requires { ⌜ at + (length (now label) + places + 5 + places) ≤ length (now out) ⌝ }
+    ensures { λ r. ⌜ Puts (now (label .entry) ++ hex places expect ++ ascii " got " ++ hex places got) (now (out .entry)) at (now (out .exit)) r ⌝ }
+    ensures { λ r. ⌜ r ≡ at + (length (now (label .entry)) + places + 5 + places) ⌝ }
 {
-    let a = text(out, at, b" sum expect ");
-    let b = hex4(out, a, expect);
+    let a = text(out, at, label);
+    let b = hex(out, a, places, expect);
     let c = text(out, b, b" got ");
-    hex4(out, c, got)
+    hex(out, c, places, got)
 }
 
 // A wrong sum's line behind its position; `named`: with class, id and length of the frame.
@@ -155,20 +165,39 @@ fn wrong(
     requires { ⌜ at + 61 ≤ length (now out) ⌝ }
     ensures { λ r. ⌜ Puts (wrong named class id n expect got) (now (out .entry)) at (now (out .exit)) r ⌝ }
 {
-    let next = sums(out, at, expect, got);
+    let next = compared(out, at, b" sum expect ", 4, expect as u32, got as u32);
     if named {
         return ubx(out, next, class, id, n as u64);
     }
     text(out, next, b"\n")
 }
 
-// An answer's line, where earlier closes reported `before` bytes as used. Need more and refusals have none. A wrong sum's has
-// class, id and length of its frame where it is to be `named`.
-pub fn line(out: &mut [u8], at: usize, named: bool, before: u64, answer: Answer) -> usize
-    requires { ⌜ at + 84 ≤ length (now out) ⌝ }
-    ensures { λ r. ⌜ Puts (line named before answer) (now (out .entry)) at (now (out .exit)) r ⌝ }
+// A wrong parity's line.
+fn wrong_parity(out: &mut [u8], at: usize, before: u64, p: usize, expect: u32, got: u32) -> usize
+    requires { ⌜ at + 56 ≤ length (now out) ⌝ }
+    ensures { λ r. ⌜ Puts (wrongParity before p expect got) (now (out .entry)) at (now (out .exit)) r ⌝ }
 {
-    match answer {
+    let a = here(out, at, before, p);
+    let b = compared(out, a, b" parity expect ", 6, expect, got);
+    text(out, b, b"\n")
+}
+
+// A line of a position, a label and a number.
+fn placed(out: &mut [u8], at: usize, before: u64, p: usize, label: &[u8], n: u64) -> usize
+    requires { ⌜ at + (length (now label) + 44) ≤ length (now out) ⌝ }
+    ensures { λ r. ⌜ Puts (here before p ++ ((now (label .entry) ++ decimal n) ++ ascii "\n")) (now (out .entry)) at (now (out .exit)) r ⌝ }
+{
+    let next = here(out, at, before, p);
+    sized(out, next, label, n)
+}
+
+// An answer's line, where the parser is of this mode and earlier closes reported `before` bytes as used. Need more and refusals
+// have none. A wrong sum's has class, id and length of its frame where it is to be `named`.
+pub fn line(out: &mut [u8], at: usize, named: bool, mode: Mode, before: u64, said: Answer) -> usize
+    requires { ⌜ at + 84 ≤ length (now out) ⌝ }
+    ensures { λ r. ⌜ Puts (line named mode before said) (now (out .entry)) at (now (out .exit)) r ⌝ }
+{
+    match said {
         Answer::UbxFrame {
             class,
             id,
@@ -179,12 +208,11 @@ pub fn line(out: &mut [u8], at: usize, named: bool, before: u64, answer: Answer)
             ubx(out, next, class, id, less(place.len, 2))
         }
         Answer::RtcmFrame { at: p, place } => {
-            let next = here(out, at, before, p);
-            sized(out, next, b" rtcm len ", less(place.len, 3))
+            let n = less(place.len, look::around(window::has_parity(mode)));
+            placed(out, at, before, p, b" rtcm len ", n)
         }
         Answer::Sentence { at: p, place } => {
-            let next = here(out, at, before, p);
-            sized(out, next, b" nmea len ", place.len as u64)
+            placed(out, at, before, p, b" nmea len ", place.len as u64)
         }
         Answer::WrongSum {
             class,
@@ -197,12 +225,10 @@ pub fn line(out: &mut [u8], at: usize, named: bool, before: u64, answer: Answer)
             let next = here(out, at, before, p);
             wrong(out, next, named, class, id, n, expect, got)
         }
-        Answer::NoRoom { at: p, size } => {
-            let next = here(out, at, before, p);
-            sized(out, next, b" room ", size as u64)
-        }
+        Answer::NoRoom { at: p, size } => placed(out, at, before, p, b" room ", size as u64),
         Answer::NeedMore => at,
         Answer::Refused(_) => at,
+        Answer::WrongParity { at: p, expect, got } => wrong_parity(out, at, before, p, expect, got),
     }
 }
 

@@ -6,7 +6,7 @@ use mathlib.Core.List.{List, [], _++_, append-nil}
 use lib.ListN.{length}
 use Rattle.state.specs.declared.State.{State}
 use Rattle.state.specs.declared.Leave.{Leave, the-variants.{Granted, Denied}}
-use Rattle.framer.specs.declared.Answer.{Answer, the-variants.{UbxFrame, RtcmFrame, Sentence, WrongSum, NoRoom, NeedMore, Refused}}
+use Rattle.framer.specs.declared.Answer.{Answer, the-variants.{UbxFrame, RtcmFrame, Sentence, WrongSum, NoRoom, NeedMore, Refused, WrongParity}}
 use Rattle.framer.specs.Step.{StepOut, step}
 use Rattle.lines.specs.Text.{Puts}
 use Rattle.lines.specs.Lines.{line}
@@ -48,7 +48,7 @@ module _ (l : Listing) (carry chunk out : List ℕ) (h : l .waiting ≤ length o
           ∙ ap (λ (x : Listing). onward x (o₁ .result .state) (r .listing .waiting)) (g .listing)
           ∙ ap (λ (z : State). onward l z (r .listing .waiting)) (sym state)
 
-      puts : Puts (g .text ++ line (l .named) (l .used) (o₁ .result .answer)) out (l .waiting) o′ (r .listing .waiting)
+      puts : Puts (g .text ++ line (l .named) (now .listing .state .mode) (l .used) (o₁ .result .answer)) out (l .waiting) o′ (r .listing .waiting)
       unfolding o₁
       puts =
           let used : now .listing .used ≡ l .used = ap (λ (x : Listing). x .used) (g .listing) in
@@ -61,7 +61,7 @@ module _ (l : Listing) (carry chunk out : List ℕ) (h : l .waiting ≤ length o
       pub going-on : r .more ≡ true → Going l carry chunk out r c′ o′
       unfolding o₁
       going-on m = record {
-        text = g .text ++ line (l .named) (l .used) (o₁ .result .answer);
+        text = g .text ++ line (l .named) (now .listing .state .mode) (l .used) (o₁ .result .answer);
         lines = rw (state, t .carries) (nextLine (g .lines) (sym (t .goes) ∙ m));
         puts = puts;
         listing = listing;
@@ -76,7 +76,7 @@ module _ (l : Listing) (carry chunk out : List ℕ) (h : l .waiting ≤ length o
           record {
             text = g .text;
             says = rw (state, t .carries, m) (isWhole (g .lines) e);
-            puts = rw (no-line (l .named) (l .used) (o₁ .result .answer) e, append-nil) at puts;
+            puts = rw (no-line (l .named) (now .listing .state .mode) (l .used) (o₁ .result .answer) e, append-nil) at puts;
             listing = listing;
             within = within;
             full = λ f. absurd (true≢false (sym f ∙ m));

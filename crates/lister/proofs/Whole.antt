@@ -7,7 +7,7 @@ use mathlib.Core.List.{List, [], _∷_, _++_, append-nil, append-assoc}
 use lib.ListN.{length}
 use Rattle.state.specs.declared.State.{State}
 use Rattle.state.specs.declared.Leave.{Leave, the-variants.{Granted, Denied}}
-use Rattle.framer.specs.declared.Answer.{Answer, the-variants.{UbxFrame, RtcmFrame, Sentence, WrongSum, NoRoom, NeedMore, Refused}}
+use Rattle.framer.specs.declared.Answer.{Answer, the-variants.{UbxFrame, RtcmFrame, Sentence, WrongSum, NoRoom, NeedMore, Refused, WrongParity}}
 use Rattle.framer.specs.Step.{step}
 use Rattle.lines.specs.Lines.{line}
 use Rattle.lister.specs.declared.Listing.{Listing}
@@ -20,7 +20,7 @@ use Rattle.lister.proofs.Laws.{Uses, line-uses}
 join : {named : Bool} {before : ℕ} {chunk : List ℕ} {s t u : State} {a b c x y : List ℕ} → Lines named before chunk s a x t b → Lines named before chunk t b y u c → Lines named before chunk s a (x ++ y) u c
 join {x = x} p noLine = rw append-nil p
 join {named} {before} {chunk} {x = x} p (nextLine {text} {t} {mid} q e) =
-    rw (← append-assoc x text (line named before (step t mid chunk .result .answer))) (nextLine (join p q) e)
+    rw (← append-assoc x text (line named (t .mode) before (step t mid chunk .result .answer))) (nextLine (join p q) e)
 
 full-lines : {named : Bool} {before : ℕ} {chunk : List ℕ} {s t : State} {a b x : List ℕ} {more : Bool} → Filled named before chunk s a more x t b → more ≡ true → Lines named before chunk s a x t b
 full-lines (isFull p) e = p

@@ -1,24 +1,23 @@
 -- What a listing says of a chunk: the lines of its answers, in turn, and no others.
 use mathlib.Core.Path.{_≡_}
 use Prim.Native.Nat.{ℕ, _+_, _%_, _^_, _≤_, _<_}
-use mathlib.Core.Bool.{Bool, true, false}
+use mathlib.Core.Bool.{Bool, true, false, not, _||_}
 use mathlib.Core.List.{List, [], _++_}
 use lib.ListN.{length}
-use lib.Dec.{ltb}
 use Rattle.state.specs.declared.State.{State}
 use Rattle.framer.specs.declared.Answer.{Answer}
 use Rattle.framer.specs.declared.Closed.{Closed}
 use Rattle.framer.specs.Operations.{opening, closing}
 use Rattle.framer.specs.Step.{step}
-use Rattle.framer.specs.Answers.{number}
+use Rattle.framer.specs.Reached.{isNeedMore, isRefused}
 use Rattle.lines.specs.Text.{Puts}
 use Rattle.lines.specs.Lines.{line}
 use Rattle.lister.specs.declared.Listing.{Listing}
 use Rattle.lister.specs.declared.Turn.{Turn}
 
--- frames, wrong sums and no room have a line
+-- frames, wrong sums, wrong parities and no room have a line
 abbrev pub hasLine : Answer → Bool
-hasLine a = ltb (number a) 6
+hasLine a = not (isNeedMore a || isRefused a)
 
 -- the listing with another state and so many bytes waiting
 abbrev pub onward : Listing → State → ℕ → Listing
@@ -36,14 +35,15 @@ counted l c = record { state = c .state; used = (l .used + c .used) % 2 ^ 64; ke
 pub record Tells (l : Listing) (carry chunk out : List ℕ) (r : Turn) (carryThen outThen : List ℕ) : Type 0 where
   pub listing : r .listing ≡ onward l (step (l .state) carry chunk .result .state) (r .listing .waiting)
   pub carries : carryThen ≡ step (l .state) carry chunk .carry
-  pub puts : Puts (line (l .named) (l .used) (step (l .state) carry chunk .result .answer)) out (l .waiting) outThen (r .listing .waiting)
+  pub puts : Puts (line (l .named) (l .state .mode) (l .used) (step (l .state) carry chunk .result .answer)) out (l .waiting) outThen (r .listing .waiting)
   pub goes : r .more ≡ hasLine (step (l .state) carry chunk .result .answer)
 
--- the lines of so many steps with a chunk, from a state and its carry on, each of which has one; and the state and the carry then
+-- the lines of so many steps with a chunk, from a state and its carry on, each of which has one, in the mode of the state that
+-- steps; and the state and the carry then
 pub data Lines (named : Bool) (before : ℕ) (chunk : List ℕ) (s : State) (carry : List ℕ) : List ℕ → State → List ℕ → Type 0 where
   noLine : Lines named before chunk s carry [] s carry
   nextLine : {text : List ℕ} {t : State} {mid : List ℕ} → Lines named before chunk s carry text t mid → hasLine (step t mid chunk .result .answer) ≡ true
-      → Lines named before chunk s carry (text ++ line named before (step t mid chunk .result .answer)) (step t mid chunk .result .state) (step t mid chunk .carry)
+      → Lines named before chunk s carry (text ++ line named (t .mode) before (step t mid chunk .result .answer)) (step t mid chunk .result .state) (step t mid chunk .carry)
 
 -- and whether there may be more: the buffer is full; or the next step had no line, and those are all
 pub data Filled (named : Bool) (before : ℕ) (chunk : List ℕ) (s : State) (carry : List ℕ) : Bool → List ℕ → State → List ℕ → Type 0 where

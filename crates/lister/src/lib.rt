@@ -33,10 +33,11 @@ fn one(l: Listing, carry: &mut [u8], chunk: &[u8], out: &mut [u8]) -> Turn
     ensures { λ r. ⌜ Tells l (now (carry .entry)) (now (chunk .entry)) (now (out .entry)) r (now (carry .exit)) (now (out .exit)) ⌝ }
 {
     let from = l.state;
+    let mode = from.mode;
     let stepped = framer::step(from, carry, chunk);
     let answer = stepped.answer;
     let state = stepped.state;
-    let waiting = lines::line(out, l.waiting, l.named, l.used, answer);
+    let waiting = lines::line(out, l.waiting, l.named, mode, l.used, answer);
     let listing = Listing {
         state,
         waiting,

@@ -9,7 +9,7 @@ fn main() {
     lister::list(
         STDIN_FILENO,
         b"standard input",
-        Mode::One,
+        Mode::One(false),
         240,
         false,
         &mut carry,

@@ -1,4 +1,3 @@
 pub mod Rules
 pub mod Within
-pub mod Passed
-pub mod OneSide
+pub mod Grow

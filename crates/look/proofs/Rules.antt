@@ -10,6 +10,7 @@ use lib.Dec.{ltb}
 use borrow.Author.Tests.{leb-true, lt-ltb, le-ltb, eq-eqb, ne-eqb}
 use Rattle.sum.specs.declared.Sums.{Sums}
 use Rattle.sum.specs.Sum.{sumOf, pairOf}
+use Rattle.parity.specs.Parity.{parityOf, wordOf}
 use Rattle.window.specs.declared.Mode.{Mode}
 use Rattle.window.specs.declared.Found.{Found, the-variants.{Nothing}}
 use Rattle.window.specs.Pick.{pick}
@@ -21,7 +22,7 @@ use Rattle.look.specs.declared.Why.the-variants.{NoSync, NotPair, OverMa
 use Rattle.look.specs.declared.Verdict.the-variants.{Wait, Hand}
 use Rattle.look.specs.declared.Sight.the-variants.{Pass, Say}
 use Rattle.look.specs.Rules.{skip, size, back, need, pass, claim, lookUbx, lookRtcm, endAt, lookNmea, atSync, look}
-use Rattle.look.specs.Moves.{canHand, judgeSum, judge, lacks, settled, stepMove}
+use Rattle.look.specs.Moves.{canHand, judgeSum, judgeParity, judge, lacks, settled, stepMove}
 
 -- ---- what becomes of a claim, for every kind: the window is two lists joined, of which the carry has the first
 
@@ -55,9 +56,20 @@ module _ (class id n a b : ℕ) (got : Sums) (W : List ℕ) (ea : a ≡ getD W (
       let l : 6 + n - 2 ≡ n + 4 = omega arith in
       rw (ea, eb, es, l, q, p)
 
-pub judge-rtcm : (n : ℕ) (W : List ℕ) → judge (Rtcm n) W ≡ Hand (Rtcm n)
+-- ---- the parity of a frame
+
+pub judge-bare : (n : ℕ) (W : List ℕ) → judge (Rtcm n false) W ≡ Hand (Rtcm n false)
 unfolding judge
-judge-rtcm n W = refl
+judge-bare n W = refl
+
+module _ (n high middle low : ℕ) (W : List ℕ)
+    (eh : high ≡ getD W (n + 3) 0) (em : middle ≡ getD W (n + 3 + 1) 0) (el : low ≡ getD W (n + 3 + 2) 0) where
+  pub judge-parity : judge (Rtcm n true) W ≡ judgeParity (wordOf high middle low) (parityOf (take (n + 3) W)) n
+  unfolding judge
+  judge-parity =
+      let m : n + 3 + 1 ≡ n + 4 = omega arith in
+      let l : n + 3 + 2 ≡ n + 5 = omega arith in
+      rw (eh, em, el, m, l)
 
 pub judge-sentence : (i : ℕ) (W : List ℕ) → judge (Sentence i) W ≡ Hand (Sentence i)
 unfolding judge
@@ -89,12 +101,12 @@ module _ (max : ℕ) (W : List ℕ) where
 
 -- ---- rule 3
 
-module _ (W : List ℕ) where
-  pub rtcm-short : length W < 3 → lookRtcm W ≡ need 0
+module _ (parity : Bool) (W : List ℕ) where
+  pub rtcm-short : length W < 3 → lookRtcm parity W ≡ need 0
   unfolding lookRtcm pick
   rtcm-short h = rw (lt-ltb _ _ h)
 
-  pub rtcm-claims : (high low : ℕ) → high ≡ getD W 1 0 → low ≡ getD W 2 0 → 3 ≤ length W → lookRtcm W ≡ claim (Rtcm ((256 * high + low) % 1024))
+  pub rtcm-claims : (high low : ℕ) → high ≡ getD W 1 0 → low ≡ getD W 2 0 → 3 ≤ length W → lookRtcm parity W ≡ claim (Rtcm ((256 * high + low) % 1024) parity)
   unfolding lookRtcm pick
   rtcm-claims high low eh el h = rw (le-ltb _ _ h, eh, el)
 

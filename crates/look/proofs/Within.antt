@@ -10,11 +10,12 @@ use borrow.Author.Tests.{ltb-false, leb-true, lt-ltb}
 use Rattle.window.specs.declared.Mode.{Mode}
 use Rattle.window.specs.declared.Found.{Found, the-variants.{At, Nothing}}
 use Rattle.window.proofs.Pick.{by-pick}
+use Rattle.window.specs.Sync.{hasParity}
 use Rattle.window.specs.EndMark.{endMark}
 use Rattle.look.specs.declared.Kind.{Kind, the-variants.{Ubx, Rtcm, Sentence}}
-use Rattle.look.specs.Rules.{skip, size, back, far, Look, need, pass, claim, lookUbx, lookRtcm, endAt, lookNmea, look}
+use Rattle.look.specs.Rules.{skip, around, size, back, far, Look, need, pass, claim, lookUbx, lookRtcm, endAt, lookNmea, look}
 use Rattle.look.specs.Moves.{canHand, judge, lacks, settled, stepMove}
-use Rattle.look.specs.Passed.{whole, Says, Moves}
+use Rattle.look.specs.Within.{whole, Says, Moves}
 
 -- ---- a look
 
@@ -31,9 +32,13 @@ ubx-in max W =
     by-pick (In (length W)) (λ _. omega arith)
     (λ _. by-pick (In (length W)) (λ _. omega arith) (λ _. by-pick (In (length W)) (λ _. omega arith) (λ _. omega arith))))
 
-rtcm-in : (W : List ℕ) → In (length W) (lookRtcm W)
+around-head : (parity : Bool) → 3 ≤ around parity
+around-head true = omega arith
+around-head false = omega arith
+
+rtcm-in : (parity : Bool) (W : List ℕ) → In (length W) (lookRtcm parity W)
 unfolding lookRtcm
-rtcm-in W = by-pick (In (length W)) (λ _. omega arith) (λ t. let h : 3 ≤ length W = ltb-false (length W) 3 t in omega arith)
+rtcm-in parity W = by-pick (In (length W)) (λ _. omega arith) (λ t. let h : 3 ≤ length W = ltb-false (length W) 3 t in omega (arith, around-head parity))
 
 end-in : (mode : Mode) (W : List ℕ) (f : Found) → 8 ≤ length W → In (length W) (endAt mode W f)
 end-in mode W (At i) h = omega arith
@@ -46,7 +51,7 @@ look-in mode max (b ∷ bs) =
     let W : List ℕ = b ∷ bs in
     by-pick (In (length W))
     (λ _. by-pick (In (length W)) (λ _. ubx-in max W)
-    (λ _. by-pick (In (length W)) (λ _. rtcm-in W)
+    (λ _. by-pick (In (length W)) (λ _. rtcm-in (hasParity mode) W)
     (λ _. by-pick (In (length W)) (λ _. omega arith) (λ t. end-in mode W (endMark 0 W) (ltb-false (length W) 8 t)))))
     (λ _. omega arith)
 
@@ -67,7 +72,8 @@ judge-in : (cap u : ℕ) (W : List ℕ) (kind : Kind) → 2 ≤ whole kind → (
     → Says cap u (length W) (judge kind W)
 unfolding judge
 judge-in cap u W (Ubx c i n) h f = by-pick (Says cap u (length W)) (λ _. (omega arith, f .0, f .1)) (λ _. (omega arith, omega (arith, f .0)))
-judge-in cap u W (Rtcm n) h f = (omega arith, f .0, f .1)
+judge-in cap u W (Rtcm n true) h f = by-pick (Says cap u (length W)) (λ _. (omega arith, f .0, f .1)) (λ _. (omega arith, omega (arith, f .0)))
+judge-in cap u W (Rtcm n false) h f = (omega arith, f .0, f .1)
 judge-in cap u W (Sentence i) h f = (omega arith, f .0, f .1)
 
 lacks-in : (cap u w drain size : ℕ) (over : Bool) → (0 < drain) × (drain ≤ w) → Says cap u w (lacks over drain size)

@@ -1,6 +1,6 @@
--- 01, "One step", rules 1 to 4: what stands at the front of a window. It goes by the window's bytes alone.
+-- 01, "One step", rules 1 to 4, and 02, Ticket 4: what stands at the front of a window. It goes by the window's bytes alone.
 use Prim.Native.Nat.{ℕ, _+_, _*_, _%_}
-use mathlib.Core.Bool.{not}
+use mathlib.Core.Bool.{Bool, true, false, not}
 use mathlib.Core.List.{List, [], _∷_}
 use lib.ListN.{length, getD, drop}
 use lib.Dec.{ltb, eqb}
@@ -8,25 +8,30 @@ use Rattle.sum.specs.Sum.{pairOf}
 use Rattle.window.specs.declared.Mode.{Mode}
 use Rattle.window.specs.declared.Found.{Found, the-variants.{At, Nothing}}
 use Rattle.window.specs.Pick.{pick}
-use Rattle.window.specs.Sync.{isSync, firstSync}
+use Rattle.window.specs.Sync.{hasParity, isSync, firstSync}
 use Rattle.window.specs.EndMark.{endMark}
 use Rattle.look.specs.declared.Kind.{Kind, the-variants.{Ubx, Rtcm, Sentence}}
 use Rattle.look.specs.declared.Why.{Why, the-variants.{NoSync, NotPair, OverMax}}
 
+-- what an RTCM frame has around its message: the three bytes of its head and, with parity, three behind
+abbrev pub around : Bool → ℕ
+around true = 6
+around false = 3
+
 -- what is drained before a frame's body, the body's length, and what is drained where there is no room for it
 abbrev pub skip : Kind → ℕ
 skip (Ubx class id n) = 6
-skip (Rtcm n) = 0
+skip (Rtcm n parity) = 0
 skip (Sentence i) = 0
 
 abbrev pub size : Kind → ℕ
 size (Ubx class id n) = n + 2
-size (Rtcm n) = n + 3
+size (Rtcm n parity) = n + around parity
 size (Sentence i) = i + 2
 
 abbrev pub back : Kind → ℕ
 back (Ubx class id n) = 2
-back (Rtcm n) = 1
+back (Rtcm n parity) = 1
 back (Sentence i) = 1
 
 -- how many bytes are passed, by why: the front byte is no sync byte; the second byte is not 62; n is over MAX
@@ -54,10 +59,10 @@ lookUbx max W =
     (claim (Ubx (getD W 2 0) (getD W 3 0) n)))))
 
 -- rule 3, at D3: n is the low 10 bits of bytes 1 and 2, big-endian
-unfoldable pub lookRtcm : List ℕ → Look
-lookRtcm W =
+unfoldable pub lookRtcm : Bool → List ℕ → Look
+lookRtcm parity W =
     pick (ltb (length W) 3) (need 0)
-    (claim (Rtcm ((256 * getD W 1 0 + getD W 2 0) % 1024)))
+    (claim (Rtcm ((256 * getD W 1 0 + getD W 2 0) % 1024) parity))
 
 -- rule 4, at 24, by the end mark found: where there is none, a sync byte at 1 or later drains 1, and over 82 bytes drain all
 abbrev pub endAt : Mode → List ℕ → Found → Look
@@ -74,7 +79,7 @@ lookNmea mode W = pick (ltb (length W) 8) (need 0) (endAt mode W (endMark 0 W))
 abbrev pub atSync : Mode → ℕ → ℕ → List ℕ → Look
 atSync mode max b W =
     pick (eqb b 0xB5) (lookUbx max W)
-    (pick (eqb b 0xD3) (lookRtcm W)
+    (pick (eqb b 0xD3) (lookRtcm (hasParity mode) W)
     (lookNmea mode W))
 
 -- an empty window needs more; rule 1: a front byte that is no sync byte is passed

@@ -1,8 +1,9 @@
 // What stands at the window's front, and what a step says of it. Rust: parser.rs, the heads of the three iterators' `next`
 // and `extract_packet_ubx`, `extract_packet_rtcm`, `extract_packet_nmea`; parser/buffer.rs, `can_drain_and_take`.
 ghost use mathlib.Core.Path.{_≡_};
-ghost use mathlib.Core.List.{List, _++_};
-ghost use Prim.Native.Nat.{ℕ, _+_, _*_, _%_, _≤_, _<_, _^_};
+ghost use mathlib.Core.Bool.{true};
+ghost use mathlib.Core.List.{_++_};
+ghost use Prim.Native.Nat.{_+_, _*_, _%_, _≤_, _<_, _^_};
 ghost use lib.ListN.{length};
 ghost use lib.Dec.{ltb};
 ghost use Rattle.sum.specs.Sum.{pairOf};
@@ -11,21 +12,21 @@ ghost use Rattle.look.specs.declared.Kind.the-variants.{Ubx, Rtcm, Sente
 ghost use Rattle.look.specs.declared.Tale.the-variants.{WrongSum};
 ghost use Rattle.look.specs.declared.Verdict.the-variants.{Tell};
 ghost use Rattle.look.specs.declared.Sight.the-variants.{Say};
-ghost use Rattle.look.specs.Rules.{skip, size, far, claim, lookUbx, lookRtcm, lookNmea, endAt};
-ghost use Rattle.look.specs.Moves.{canHand, cost, judge, judgeSum, lacks, settled, stepMove};
-ghost use Rattle.look.specs.Passed.{moveAt, Passed, Stops};
-ghost use Rattle.look.specs.OneSide.{firstOf, Begins, Tells};
+ghost use Rattle.look.specs.Rules.{skip, around, size, claim, lookUbx, lookRtcm, lookNmea, endAt};
+ghost use Rattle.look.specs.Moves.{canHand, cost, judge, judgeSum, judgeParity, lacks, settled, stepMove};
 use sum::Sums;
 use window::Found;
 use window::Mode;
 
-const UBX_SYNC_SIZE: usize = 2;
+pub const UBX_SYNC_SIZE: usize = 2;
 
-const UBX_HEADER_LEN: usize = 6;
+pub const UBX_HEADER_LEN: usize = 6;
 
-const UBX_CHECKSUM_LEN: usize = 2;
+pub const UBX_CHECKSUM_LEN: usize = 2;
 
 const RTCM_HEADER_SIZE: usize = 3;
+
+const RTCM_PARITY_LEN: usize = 3;
 
 const NMEA_END_CHARS_LEN: usize = 2;
 
@@ -33,10 +34,11 @@ const NMEA_MIN_BUFFER_SIZE: usize = 8;
 
 const NMEA_MAX_SENTENCE_LENGTH: usize = 82;
 
-// A frame that a head claims: UBX with class, id and n; RTCM with n; a sentence whose CR stands at i.
+// A frame that a head claims: UBX with class, id and n; RTCM with n, and whether it is read with parity; a sentence whose CR
+// stands at i.
 pub enum Kind {
     Ubx { class: u8, id: u8, n: usize },
-    Rtcm { n: usize },
+    Rtcm { n: usize, parity: bool },
     Sentence { i: usize },
 }
 
@@ -48,6 +50,10 @@ pub enum Tale {
         n: usize,
         expect: u16,
         got: u16,
+    },
+    WrongParity {
+        expect: u32,
+        got: u32,
     },
     NoRoom {
         drain: usize,
@@ -75,19 +81,6 @@ pub enum Sight {
     Say(Verdict),
 }
 
-// What one side of the window tells of its front: nothing; bytes to pass; what is said.
-enum Hint {
-    Unsure,
-    Past(Why),
-    Sure(Verdict),
-}
-
-// How many bytes are passed in silence, and what is said there.
-pub struct Stop {
-    pub skip: usize,
-    pub verdict: Verdict,
-}
-
 // The bytes drained before a frame's body.
 pub fn skip(kind: Kind) -> usize
     ensures { λ r. ⌜ r ≡ skip kind ⌝ }
@@ -98,9 +91,20 @@ pub fn skip(kind: Kind) -> usize
             id: _,
             n: _,
         } => UBX_HEADER_LEN,
-        Kind::Rtcm { n: _ } => 0,
+        Kind::Rtcm { n: _, parity: _ } => 0,
         Kind::Sentence { i: _ } => 0,
     }
+}
+
+// What an RTCM frame has around its message: the head before it and, where it is read with parity, that behind it.
+pub fn around(parity: bool) -> usize
+    ensures { λ r. ⌜ r ≡ around parity ⌝ }
+    ensures { λ r. ⌜ r ≤ 6 ⌝ }
+{
+    if parity {
+        return RTCM_HEADER_SIZE + RTCM_PARITY_LEN;
+    }
+    RTCM_HEADER_SIZE
 }
 
 // The length of its body: a UBX frame's is payload and check bytes, the others' the whole frame.
@@ -110,7 +114,7 @@ pub fn size(kind: Kind) -> usize
 {
     match kind {
         Kind::Ubx { class: _, id: _, n } => n + UBX_CHECKSUM_LEN,
-        Kind::Rtcm { n } => n + RTCM_HEADER_SIZE,
+        Kind::Rtcm { n, parity } => n + around(parity),
         Kind::Sentence { i } => i + NMEA_END_CHARS_LEN,
     }
 }
@@ -127,6 +131,7 @@ pub fn cost(tale: Tale) -> usize
             expect: _,
             got: _,
         } => UBX_SYNC_SIZE,
+        Tale::WrongParity { expect: _, got: _ } => 1,
         Tale::NoRoom { drain, size: _ } => drain,
     }
 }
@@ -149,7 +154,7 @@ pub fn can_hand(cap: usize, u: usize, w: usize, d: usize, t: usize) -> bool
 }
 
 // A frame that can't be handed out: no room where the window is over C, else need more.
-fn lacks(cap: usize, w: usize, drain: usize, size: usize) -> Verdict
+pub fn lacks(cap: usize, w: usize, drain: usize, size: usize) -> Verdict
     ensures { λ r. ⌜ r ≡ lacks (ltb cap w) drain size ⌝ }
 {
     if cap < w {
@@ -174,7 +179,7 @@ fn wrong_sum(class: u8, id: u8, n: usize, a: u8, b: u8, got: Sums) -> Verdict
 }
 
 // What the received pair a, b and the computed one say of a UBX frame.
-fn judged(a: u8, b: u8, got: Sums, class: u8, id: u8, n: usize) -> Verdict
+pub fn judged(a: u8, b: u8, got: Sums, class: u8, id: u8, n: usize) -> Verdict
     ensures { λ r. ⌜ r ≡ judgeSum a b got class id n ⌝ }
 {
     if a == got.a && b == got.b {
@@ -239,25 +244,61 @@ fn wide(x: u8) -> usize
 }
 
 // An RTCM frame's length: the low 10 bits of its two bytes, big-endian.
-fn rtcm_length(high: u8, low: u8) -> usize
+pub fn rtcm_length(high: u8, low: u8) -> usize
     ensures { λ r. ⌜ r ≡ (256 * high + low) % 1024 ⌝ }
 {
     (256 * wide(high) + wide(low)) % 1024
 }
 
+// What the received parity and the computed one say of an RTCM frame.
+fn parity_judged(expect: u32, got: u32, n: usize) -> Verdict
+    ensures { λ r. ⌜ r ≡ judgeParity expect got n ⌝ }
+{
+    if expect == got {
+        let kind = Kind::Rtcm { n, parity: true };
+        return Verdict::Hand(kind);
+    }
+    let tale = Tale::WrongParity { expect, got };
+    Verdict::Tell(tale)
+}
+
+// A whole RTCM frame with its parity: that decides.
+fn parity_checked(a: &[u8], b: &[u8], n: usize) -> Verdict
+    requires { ⌜ n + 6 ≤ length (now a) + length (now b) ⌝ }
+    ensures { λ r. ⌜ r ≡ judge (Rtcm n true) (now (a .entry) ++ now (b .entry)) ⌝ }
+{
+    let end = n + RTCM_HEADER_SIZE;
+    let got = window::parity_of(a, b, end);
+    let high = window::byte_at(a, b, end);
+    let middle = window::byte_at(a, b, end + 1);
+    let low = window::byte_at(a, b, end + 2);
+    parity_judged(parity::word(high, middle, low), got, n)
+}
+
+// A whole RTCM frame, read with parity or as the crate reads it.
+fn rtcm_judged(a: &[u8], b: &[u8], n: usize, parity: bool) -> Verdict
+    requires { ⌜ n + around parity ≤ length (now a) + length (now b) ⌝ }
+    ensures { λ r. ⌜ r ≡ judge (Rtcm n parity) (now (a .entry) ++ now (b .entry)) ⌝ }
+{
+    if parity {
+        return parity_checked(a, b, n);
+    }
+    let kind = Kind::Rtcm { n, parity: false };
+    Verdict::Hand(kind)
+}
+
 // Rule 3, at D3.
-fn at_rtcm(cap: usize, a: &[u8], b: &[u8]) -> Verdict
-    ensures { λ r. ⌜ Say r ≡ settled cap (length (now (a .entry))) (now (a .entry) ++ now (b .entry)) (lookRtcm (now (a .entry) ++ now (b .entry))) ⌝ }
+fn at_rtcm(parity: bool, cap: usize, a: &[u8], b: &[u8]) -> Verdict
+    ensures { λ r. ⌜ Say r ≡ settled cap (length (now (a .entry))) (now (a .entry) ++ now (b .entry)) (lookRtcm parity (now (a .entry) ++ now (b .entry))) ⌝ }
 {
     let w = a.len() + b.len();
     if w < RTCM_HEADER_SIZE {
         return Verdict::Wait(0);
     }
     let n = rtcm_length(window::byte_at(a, b, 1), window::byte_at(a, b, 2));
-    let size = n + RTCM_HEADER_SIZE;
+    let size = n + around(parity);
     if can_hand(cap, a.len(), w, 0, size) {
-        let kind = Kind::Rtcm { n };
-        return Verdict::Hand(kind);
+        return rtcm_judged(a, b, n, parity);
     }
     lacks(cap, w, 1, size)
 }
@@ -307,7 +348,7 @@ fn at_nmea(mode: Mode, cap: usize, a: &[u8], b: &[u8]) -> Verdict
 }
 
 // What a step does at the window's front.
-fn look(mode: Mode, max: u16, cap: usize, a: &[u8], b: &[u8]) -> Sight
+pub fn look(mode: Mode, max: u16, cap: usize, a: &[u8], b: &[u8]) -> Sight
     ensures { λ r. ⌜ r ≡ stepMove mode max cap (length (now (a .entry))) (now (a .entry) ++ now (b .entry)) ⌝ }
 {
     if a.len() + b.len() == 0 {
@@ -321,157 +362,9 @@ fn look(mode: Mode, max: u16, cap: usize, a: &[u8], b: &[u8]) -> Sight
         return at_ubx(max, cap, a, b);
     }
     if x == window::RTCM_SYNC_CHAR {
-        let v = at_rtcm(cap, a, b);
+        let v = at_rtcm(window::has_parity(mode), cap, a, b);
         return Sight::Say(v);
     }
     let v = at_nmea(mode, cap, a, b);
     Sight::Say(v)
-}
-
-// The look at what is left of the window after its first k bytes.
-fn look_at(mode: Mode, max: u16, cap: usize, a: &[u8], b: &[u8], k: usize) -> Sight
-    requires { ⌜ k ≤ length (now a) + length (now b) ⌝ }
-    ensures { λ r. ⌜ r ≡ moveAt mode max cap (length (now (a .entry))) (now (a .entry) ++ now (b .entry)) k ⌝ }
-{
-    let i = window::least(k, a.len());
-    let j = k - i;
-    look(mode, max, cap, &a[i..], &b[j..])
-}
-
-// How many bytes are passed, by why.
-fn far(why: Why) -> usize
-    ensures { λ r. ⌜ r ≡ far why ⌝ }
-{
-    match why {
-        Why::NoSync => 1,
-        Why::NotPair => 1,
-        Why::OverMax => 2,
-    }
-}
-
-// The first slice that has bytes.
-fn first_of<'a>(a: &'a [u8], b: &'a [u8]) -> &'a [u8]
-    ensures { λ r. ⌜ now r ≡ firstOf (now (a .entry)) (now (b .entry)) ⌝ }
-{
-    if a.len() == 0 { b } else { a }
-}
-
-// Rule 2, where one side has the head. The window has w bytes.
-fn glance_ubx(max: u16, cap: usize, s: &[u8], w: usize) -> Hint
-    requires { ⌜ 6 ≤ length (now s) ⌝ }
-    ensures { λ r. ⌜ ((u : ℕ) (W : List ℕ) → Begins (now (s .entry)) W u w → Tells r (settled cap u W (lookUbx max W))) ⌝ }
-{
-    if s[1] != window::UBX_SYNC_CHAR_2 {
-        return Hint::Past(Why::NotPair);
-    }
-    let m = sum::word(s[4], s[5]);
-    if max < m {
-        return Hint::Past(Why::OverMax);
-    }
-    let n = m as usize;
-    if w < n + 8 {
-        let v = lacks(cap, w, UBX_SYNC_SIZE, n + UBX_CHECKSUM_LEN);
-        return Hint::Sure(v);
-    }
-    if s.len() < n + 8 {
-        return Hint::Unsure;
-    }
-    let end = UBX_HEADER_LEN + n;
-    let got = sum::update(sum::new(), &s[UBX_SYNC_SIZE..end]);
-    let v = judged(s[end], s[end + 1], got, s[2], s[3], n);
-    Hint::Sure(v)
-}
-
-// Rule 3, where one side has the head.
-fn glance_rtcm(cap: usize, s: &[u8], w: usize) -> Hint
-    requires { ⌜ 3 ≤ length (now s) ⌝ }
-    ensures { λ r. ⌜ ((u : ℕ) (W : List ℕ) → Begins (now (s .entry)) W u w → Tells r (settled cap u W (lookRtcm W))) ⌝ }
-{
-    let n = rtcm_length(s[1], s[2]);
-    let size = n + RTCM_HEADER_SIZE;
-    if w < size {
-        let v = lacks(cap, w, 1, size);
-        return Hint::Sure(v);
-    }
-    if s.len() < size {
-        return Hint::Unsure;
-    }
-    let kind = Kind::Rtcm { n };
-    Hint::Sure(Verdict::Hand(kind))
-}
-
-// What one side alone tells of the front of a window of w bytes.
-fn glance(mode: Mode, max: u16, cap: usize, s: &[u8], w: usize) -> Hint
-    requires { ⌜ 6 ≤ length (now s) ⌝ }
-    ensures { λ r. ⌜ ((u : ℕ) (W : List ℕ) → Begins (now (s .entry)) W u w → Tells r (stepMove mode max cap u W)) ⌝ }
-{
-    let x = s[0];
-    if !window::is_sync(mode, x) {
-        return Hint::Past(Why::NoSync);
-    }
-    if x == window::UBX_SYNC_CHAR_1 {
-        return glance_ubx(max, cap, s, w);
-    }
-    if x == window::RTCM_SYNC_CHAR {
-        return glance_rtcm(cap, s, w);
-    }
-    Hint::Unsure
-}
-
-// Looks, and passes what is to be passed, until something is to be said: at one side alone as long as that tells, then at both.
-pub fn seek<'a>(mode: Mode, max: u16, cap: usize, a: &'a [u8], b: &'a [u8]) -> Stop
-    ensures { λ r. ⌜ Stops mode max cap (length (now (a .entry))) (now (a .entry) ++ now (b .entry)) (r .skip) (r .verdict) ⌝ }
-{
-    let w = a.len() + b.len();
-    let s = first_of(a, b);
-    let mut skip = 0;
-    while skip < s.len() {
-        if s.len() - skip < UBX_HEADER_LEN {
-            break;
-        }
-        let told = glance(mode, max, cap, &s[skip..], w - skip);
-        match told {
-            Hint::Past(why) => {
-                skip = window::find_sync(mode, a, b, skip + far(why));
-            }
-            Hint::Sure(v) => {
-                return Stop { skip, verdict: v };
-            }
-            Hint::Unsure => {
-                break;
-            }
-        }
-    }
-    seek_on(mode, max, cap, a, b, skip)
-}
-
-// Looks at both sides, from where `from` bytes are passed. The bytes up to the next sync byte go at once.
-fn seek_on(mode: Mode, max: u16, cap: usize, a: &[u8], b: &[u8], from: usize) -> Stop
-    requires { ⌜ (from ≤ length (now a) + length (now b)) × Passed mode max cap (length (now a)) (now a ++ now b) from ⌝ }
-    ensures { λ r. ⌜ Stops mode max cap (length (now (a .entry))) (now (a .entry) ++ now (b .entry)) (r .skip) (r .verdict) ⌝ }
-{
-    let w = a.len() + b.len();
-    let mut skip = from;
-    let mut verdict = Verdict::Wait(0);
-    while skip < w {
-        let sight = look_at(mode, max, cap, a, b, skip);
-        match sight {
-            Sight::Pass(why) => match why {
-                Why::NoSync => {
-                    skip = window::find_sync(mode, a, b, skip + 1);
-                }
-                Why::NotPair => {
-                    skip += 1;
-                }
-                Why::OverMax => {
-                    skip += 2;
-                }
-            },
-            Sight::Say(v) => {
-                verdict = v;
-                break;
-            }
-        }
-    }
-    Stop { skip, verdict }
 }

@@ -54,6 +54,10 @@ on-end : (from : ℕ) → parityOn from [] ≡ from % 2 ^ 24
 unfolding bitsOf parityOf divide reduce
 on-end from = on-is from [] ∙ xor-zero-r (from % 2 ^ 24)
 
+pub on-none : (from : ℕ) (l : List ℕ) → length l ≡ 0 → bitAnd from 0xFFFFFF ≡ parityOn from l
+on-none from [] h = and-mask from 24 ∙ sym (on-end from)
+on-none from (x ∷ l) h = absurd (omega arith)
+
 -- the low 24 bits count
 pub on-low : (from : ℕ) (bytes : List ℕ) → parityOn (from % 2 ^ 24) bytes ≡ parityOn from bytes
 on-low from bytes =

@@ -12,10 +12,13 @@ pub fn new() -> u32
     0
 }
 
-// The parity runs on over the bytes. Of `from` the low 24 bits count.
+// The parity runs on over the bytes. Of `from` the low 24 bits count. For no bytes the table is not set up.
 pub fn update(from: u32, bytes: &[u8]) -> u32
     ensures { λ r. ⌜ r ≡ parityOn from (now (bytes .entry)) ⌝ }
 {
+    if bytes.len() == 0 {
+        return from & 0xFFFFFF;
+    }
     run(&TABLE, from, bytes)
 }
 

@@ -27,13 +27,18 @@ fn say_leave(leave: Leave) {
     io::print_decimal(STDOUT_FILENO, writer::leave_no(leave));
 }
 
+// A byte in hex.
+fn say_byte(x: u8) {
+    let mut text = [b' '; 3];
+    lines::hex(&mut text, 1, 2, x as u32);
+    say(&text);
+}
+
 // The bytes in hex.
 fn say_bytes(bytes: &[u8]) {
     let mut i = 0;
     while i < bytes.len() {
-        let mut text = [b' '; 3];
-        lines::hex2(&mut text, 1, bytes[i]);
-        say(&text);
+        say_byte(bytes[i]);
         i += 1;
     }
 }
@@ -48,9 +53,10 @@ fn say_header(mode: Mode, cap: usize) {
 // One step, and its answer's line, if it has one.
 fn say_step(s: State, carry: &mut [u8], chunk: &[u8]) -> State {
     let mut out = [0u8; LONGEST];
+    let mode = s.mode;
     let stepped = framer::step(s, carry, chunk);
     let answer = stepped.answer;
-    let n = lines::line(&mut out, 0, false, 0, answer);
+    let n = lines::line(&mut out, 0, false, mode, 0, answer);
     say_first(&out, n);
     stepped.state
 }
@@ -88,9 +94,9 @@ fn show(memory: &[u8], n: usize) {
     say_memory(memory);
     if n <= memory.len() {
         let frame = &memory[0..n];
-        list(Mode::One, frame);
-        list(Mode::Two, frame);
-        list(Mode::Three, frame);
+        list(Mode::One(false), frame);
+        list(Mode::Two(false), frame);
+        list(Mode::Three(false), frame);
     }
 }
 

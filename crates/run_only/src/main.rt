@@ -58,7 +58,7 @@ fn sentence(chunk: &[u8]) {
     let mut carry = [0u8; 128];
     say_number(b"sentence ", chunk.len());
     say(b":");
-    let started = framer::start(&carry, Mode::Three, MAX);
+    let started = framer::start(&carry, Mode::Three(false), MAX);
     let state = started.state;
     run_chunk(state, &mut carry, chunk);
 }
@@ -69,7 +69,7 @@ fn rtcm(carry: &mut [u8]) {
     let body = [0u8; 1023];
     say_number(b"carry ", carry.len());
     say(b":");
-    let started = framer::start(carry, Mode::Two, MAX);
+    let started = framer::start(carry, Mode::Two(false), MAX);
     let fresh = started.state;
     let waiting = run_chunk(fresh, carry, &head);
     say(b"  then:");

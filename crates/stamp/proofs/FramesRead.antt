@@ -6,7 +6,7 @@ use mathlib.Core.Logic.{inl, inr}
 use native.Mathlib.Omega.{arith}
 use lib.ListN.{length, drop, length-append}
 use lib.Seq.{take-at}
-use Rattle.stream.specs.Scan.{Said, ubxFrame, rtcmFrame, sentence, wrongSum, noRoom, Event, scan}
+use Rattle.stream.specs.Scan.{Said, ubxFrame, rtcmFrame, sentence, wrongSum, wrongParity, noRoom, Event, scan}
 use Rattle.stream.specs.Interface.{checksum, summed, GoodFrame}
 use Rattle.stream.proofs.OnlyGood.{only-good-frames}
 use Rattle.stamp.specs.Step.{payloadOf}
@@ -41,6 +41,7 @@ from-said (ubxFrame class id body) x m =
 from-said (rtcmFrame body) x m = absurd (among-nil m)
 from-said (sentence body) x m = absurd (among-nil m)
 from-said (wrongSum class id n expect got) x m = absurd (among-nil m)
+from-said (wrongParity expect got) x m = absurd (among-nil m)
 from-said (noRoom size) x m = absurd (among-nil m)
 
 from-answers : (answers : List Event) (x : Payload) → Among x (framesIn answers) → (e : Event) × Among e answers × Among x (frameIn (e .said))

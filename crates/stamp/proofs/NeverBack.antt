@@ -6,7 +6,7 @@ use Prim.Native.Nat.{ℕ, _+_, _-_, _<_}
 use native.Mathlib.Omega.{arith}
 use Rattle.taking.specs.declared.Place.{Place}
 use Rattle.taking.specs.View.{view}
-use Rattle.framer.specs.declared.Answer.{Answer, the-variants.{UbxFrame, RtcmFrame, Sentence, WrongSum, NoRoom, NeedMore, Refused as AnswerRefused}}
+use Rattle.framer.specs.declared.Answer.{Answer, the-variants.{UbxFrame, RtcmFrame, Sentence, WrongSum, NoRoom, NeedMore, Refused as AnswerRefused, WrongParity}}
 use Rattle.stream.specs.Scan.{Event}
 use Rattle.stream.specs.Calls.{Parser, Call, starts, opens, steps, closes, views, stepGiven, after, heard as eventsOf, hears, hearsAll}
 use Rattle.stream.specs.Demand.{fresh}
@@ -74,6 +74,7 @@ told-on clock base sight (WrongSum class id n p expect got) es = refl
 told-on clock base sight (NoRoom p size) es = refl
 told-on clock base sight NeedMore es = refl
 told-on clock base sight (AnswerRefused r) es = refl
+told-on clock base sight (WrongParity p expect got) es = refl
 
 call-tells : (k : Call) (clock : Clock) (p : Parser) (es : List Event)
     → told (tidings k clock p .told) ++ readings (tidings k clock p .clock) (framesIn es) ≡ readings clock (framesIn (hears k p ++ es))

@@ -6,7 +6,7 @@ use lib.ListN.{length}
 use Rattle.window.specs.declared.Mode.{Mode}
 use Rattle.state.specs.declared.State.{State}
 use Rattle.framer.specs.Step.{step as frameStep}
-use Rattle.stream.specs.Scan.{Said, ubxFrame, rtcmFrame, sentence, wrongSum, noRoom, Event, scan}
+use Rattle.stream.specs.Scan.{Said, ubxFrame, rtcmFrame, sentence, wrongSum, wrongParity, noRoom, Event, scan}
 use Rattle.stream.specs.Calls.{Parser, given, Call, starts, opens, steps, closes, views, after}
 use Rattle.stream.specs.Runs.{between, Follows, joined}
 use Rattle.stream.specs.Demand.{Roomy, fresh}
@@ -80,6 +80,7 @@ frameIn (ubxFrame class id body) = record { class = class; id = id; bytes = payl
 frameIn (rtcmFrame body) = []
 frameIn (sentence body) = []
 frameIn (wrongSum class id n expect got) = []
+frameIn (wrongParity expect got) = []
 frameIn (noRoom size) = []
 
 abbrev pub framesIn : List Event → List Payload

@@ -5,7 +5,7 @@ use lib.ListN.{length, take}
 use Rattle.state.specs.declared.State.{State}
 use Rattle.taking.specs.declared.Place.{Place}
 use Rattle.taking.specs.View.{view}
-use Rattle.framer.specs.declared.Answer.{Answer, the-variants.{UbxFrame, RtcmFrame, Sentence, WrongSum, NoRoom, NeedMore, Refused}}
+use Rattle.framer.specs.declared.Answer.{Answer, the-variants.{UbxFrame, RtcmFrame, Sentence, WrongSum, NoRoom, NeedMore, Refused, WrongParity}}
 use Rattle.framer.specs.Step.{StepOut, step as frameStep}
 use Rattle.stamp.specs.declared.Clock.{Clock}
 use Rattle.stamp.specs.declared.Heard.{Heard}
@@ -33,6 +33,7 @@ tells clock sight (WrongSum class id n p expect got) = nothing clock
 tells clock sight (NoRoom p size) = nothing clock
 tells clock sight NeedMore = nothing clock
 tells clock sight (Refused r) = nothing clock
+tells clock sight (WrongParity p expect got) = nothing clock
 
 pub record TimedOut : Type 0 where
   pub result : Timed

@@ -3,7 +3,7 @@ use Prim.Native.Nat.{ℕ, _+_, _%_, _^_}
 use mathlib.Core.Bool.{Bool, true, false, _&&_}
 use lib.Dec.{eqb}
 use Rattle.window.specs.Pick.{pick}
-use Rattle.framer.specs.declared.Answer.{Answer, the-variants.{UbxFrame, RtcmFrame, Sentence, WrongSum, NoRoom, NeedMore, Refused as AnswerRefused}}
+use Rattle.framer.specs.declared.Answer.{Answer, the-variants.{UbxFrame, RtcmFrame, Sentence, WrongSum, NoRoom, NeedMore, Refused as AnswerRefused, WrongParity}}
 use Rattle.stamp.specs.declared.Reading.{Reading, the-variants.{Stamp, BackBy, Refused}}
 use Rattle.stamp.specs.declared.Told.{Told, the-variants.{Nothing, Frame}}
 use Rattle.stamp_lines.specs.declared.Note.{Note, the-variants.{Time, Other, Sum, Passed, End}}
@@ -26,6 +26,7 @@ noted (WrongSum class id n p expect got) told = Sum
 noted (NoRoom p size) told = Passed
 noted NeedMore told = End
 noted (AnswerRefused r) told = End
+noted (WrongParity p expect got) told = Passed
 
 abbrev pub goesOn : Note → Bool
 goesOn (Time p reading) = true

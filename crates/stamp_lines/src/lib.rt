@@ -132,6 +132,7 @@ pub fn noted(answer: Answer, told: Told) -> Note
         Answer::NoRoom { .. } => Note::Passed,
         Answer::NeedMore => Note::End,
         Answer::Refused(_) => Note::End,
+        Answer::WrongParity { .. } => Note::Passed,
     }
 }
 

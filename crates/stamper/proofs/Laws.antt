@@ -3,7 +3,7 @@ use mathlib.Core.Path.{_≡_, refl, sym, _∙_}
 use mathlib.Core.Bool.{true, false, true≢false}
 use mathlib.Core.List.{List}
 use Prim.Native.Nat.{ℕ}
-use Rattle.framer.specs.declared.Answer.{Answer, the-variants.{UbxFrame, RtcmFrame, Sentence, WrongSum, NoRoom, NeedMore, Refused}}
+use Rattle.framer.specs.declared.Answer.{Answer, the-variants.{UbxFrame, RtcmFrame, Sentence, WrongSum, NoRoom, NeedMore, Refused, WrongParity}}
 use Rattle.lister.specs.Listing.{hasLine}
 use Rattle.lister.proofs.Laws.{Uses, line-uses}
 use Rattle.stamp.specs.declared.Told.{Told}
@@ -19,6 +19,7 @@ said-something (WrongSum class id n p expect got) told e = refl
 said-something (NoRoom p size) told e = refl
 said-something NeedMore told e = absurd (true≢false (sym e))
 said-something (Refused r) told e = absurd (true≢false (sym e))
+said-something (WrongParity p expect got) told e = refl
 
 -- a step after which there may be more uses up a byte or more, of 32,768 at most
 pub uses : (chunk : List ℕ) (p : Point) → goesOn (noteAt chunk p) ≡ true → Uses (p .state) (after chunk p .state)

@@ -9,7 +9,7 @@ fn main() {
     stamper::stamps(
         STDIN_FILENO,
         b"standard input",
-        Mode::One,
+        Mode::One(false),
         240,
         &mut carry,
         &mut chunk,

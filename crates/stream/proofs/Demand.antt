@@ -15,10 +15,11 @@ use Rattle.framer.specs.Operations.{start}
 use Rattle.stream.specs.Scan.{scanMove, Scan, scan}
 use Rattle.stream.specs.Calls.{hearsAll}
 use Rattle.stream.specs.Runs.{between, joined}
-use Rattle.stream.specs.Demand.{Roomy, fresh, holds, EveryCuttingGivesTheScan}
+use Rattle.stream.specs.Demand.{Roomy, fresh, holds, TailFitsTheCarry, EveryCuttingGivesTheScan}
 use Rattle.stream.proofs.Walks.{nothing-ends, scans}
 use Rattle.stream.proofs.Steady.{fit-sight, sight-still}
 use Rattle.stream.proofs.Modes.{steady-scan, scan-noise, has-scan, look-fit}
+use Rattle.stream.proofs.Scans.{scan-walks}
 use Rattle.stream.proofs.Steps.{Parses}
 use Rattle.stream.proofs.Cuts.{Inv, ran}
 use Rattle.stream.proofs.NoRoom.{scan-never}
@@ -60,3 +61,8 @@ every-cutting-gives-the-scan mode max carry roomy h calls chunks f =
       tail = ap (λ (x : Scan). x .tail) is;
       tailAt = ap (λ (x : Scan). x .tailAt) is;
     }
+
+-- what ends the scan fits the carry
+pub tail-fits-the-carry : TailFitsTheCarry
+tail-fits-the-carry mode max cap roomy stream =
+    parses mode max cap roomy .still (scan mode max stream .tail) (scan-walks mode max (has-scan max cap mode roomy) stream .1) .1

@@ -1,5 +1,6 @@
 -- Where the interface description's head, a payload and two bytes stand at the front of a window, a UBX frame is claimed, and nowhere else.
 use mathlib.Core.Path.{_≡_, refl, sym, _∙_}
+use mathlib.Core.Bool.{Bool}
 use mathlib.Core.List.{List, [], _∷_, _++_, append-assoc}
 use Prim.Native.Nat.{ℕ, suc, _+_, _≤_, _<_}
 use native.Mathlib.Numerals.{add-one, add-four, add-six, add-seven}
@@ -11,12 +12,13 @@ use Rattle.sum.specs.Sum.{sumOf, pairOf}
 use Rattle.window.specs.declared.Mode.{Mode}
 use Rattle.window.specs.declared.Found.{Found, the-variants.{At, Nothing}}
 use Rattle.window.specs.Pick.{pick}
+use Rattle.window.specs.Sync.{hasParity}
 use Rattle.window.specs.EndMark.{endMark}
 use Rattle.window.proofs.Pick.{by-pick}
 use Rattle.look.specs.declared.Kind.the-variants.{Ubx}
 use Rattle.look.specs.Rules.{Look, claim, lookUbx, lookRtcm, endAt, lookNmea, look}
 use Rattle.look.specs.Moves.{judgeSum, judge}
-use Rattle.look.specs.Passed.{whole}
+use Rattle.look.specs.Within.{whole}
 use Rattle.look.proofs.Rules.{ubx-claims}
 use Rattle.stream.specs.Interface.{lengthBytes, summed, framed, Bytes}
 
@@ -134,9 +136,9 @@ ubx-claimed max W bytes front class id n =
     let small : n ≤ max = rw (← is) (ltb-false max (pairOf (getD W 4 0) (getD W 5 0)) over) in
     rw (ec, ei) at (head-claimed max W (bytes 4) front (eqb-true (getD W 1 0) 0x62 (not-false _ t)) n is small w)))))
 
-rtcm-other : (W : List ℕ) (class id n : ℕ) → lookRtcm W ≡ claim (Ubx class id n) → ⊥
+rtcm-other : (parity : Bool) (W : List ℕ) (class id n : ℕ) → lookRtcm parity W ≡ claim (Ubx class id n) → ⊥
 unfolding lookRtcm
-rtcm-other W class id n =
+rtcm-other parity W class id n =
     by-pick (λ l. l ≡ claim (Ubx class id n) → ⊥)
     (λ _ e. let z : _≡_ {A = ℕ} 0 1 = cc in omega arith)
     (λ _ e. let z : _≡_ {A = ℕ} 0 1 = cc in omega arith)
@@ -156,6 +158,6 @@ claimed mode max (x ∷ xs) bytes class id n =
     let P : Look → Type 0 = λ l. l ≡ claim (Ubx class id n) → whole (Ubx class id n) ≤ length W → Claimed max W class id n in
     by-pick P
     (λ _. by-pick P (λ t. ubx-claimed max W bytes (eqb-true x 0xB5 t) class id n)
-    (λ _. by-pick P (λ _ e _. absurd (rtcm-other W class id n e))
+    (λ _. by-pick P (λ _ e _. absurd (rtcm-other (hasParity mode) W class id n e))
     (λ _. by-pick P (λ _ e _. let z : _≡_ {A = ℕ} 0 1 = cc in absurd (omega arith)) (λ _ e _. absurd (end-other mode W (endMark 0 W) class id n e)))))
     (λ _ e _. let z : _≡_ {A = ℕ} 0 1 = cc in absurd (omega arith))

@@ -15,7 +15,7 @@ use Rattle.look.specs.declared.Verdict.the-variants.{Tell, Hand}
 use Rattle.look.specs.declared.Sight.the-variants.{Say}
 use Rattle.look.specs.Rules.{skip, size}
 use Rattle.look.specs.Moves.{canHand, stepMove}
-use Rattle.look.specs.Passed.{whole}
+use Rattle.look.specs.Within.{whole}
 use Rattle.look.proofs.Rules.{hand-whole}
 use Rattle.stream.specs.Scan.{isWhole, scanMove}
 use Rattle.stream.specs.Interface.{GoodFrame, WrongFrame, Bytes}

@@ -17,5 +17,8 @@ pub mod Jumps
 pub mod NoneLost
 pub mod WeakSpot
 pub mod OnlyGood
+pub mod Headed
+pub mod Transport
+pub mod RtcmFrames
 pub mod Smallest
 pub mod Stands

@@ -1,7 +1,7 @@
--- No good frame is lost, by any moves that hand out a good frame where it stands and jump no byte but a 62.
+-- No good frame is lost, of whatever kind, by any moves that hand it out where it stands and jump no byte but a 62.
 use mathlib.Core.Path.{_≡_, refl, sym, _∙_}
 use mathlib.Core.Bool.{Bool, true, false, true≢false}
-use mathlib.Core.List.{List, _++_, List·Memᴰ·head as among-head, Memᴰ·append-right as among-right}
+use mathlib.Core.List.{List, [], _∷_, _++_, List·Memᴰ·head as among-head, Memᴰ·append-right as among-right}
 use Prim.Native.Nat.{ℕ, zero, suc, _+_, _-_, _≤_, _<_}
 use native.Mathlib.Nat.{add-zero}
 use native.Mathlib.Omega.{arith}
@@ -9,15 +9,12 @@ use lib.ListN.{length, getD, drop}
 use lib.Seq.{drop-drop, getD-drop}
 use lib.Dec.{leb}
 use borrow.Author.Tests.{leb-true, leb-false}
-use Rattle.look.specs.declared.Kind.the-variants.{Ubx}
 use Rattle.look.specs.declared.Verdict.the-variants.{Wait, Tell, Hand}
 use Rattle.look.specs.declared.Sight.{Sight, the-variants.{Pass, Say}}
 use Rattle.stream.specs.Scan.{Event, frameSaid, body}
-use Rattle.stream.specs.Interface.{GoodFrame}
-use Rattle.stream.specs.Frames.{handOut, Kept, handed, inside, unfinished}
+use Rattle.stream.specs.Frames.{Kept, handed, inside, unfinished}
 use Rattle.stream.proofs.Walks.{ends, gone, says, Steady, Walk, here, turn}
 use Rattle.stream.proofs.Cases.{span-whole}
-use Rattle.stream.proofs.Framed.{body-at}
 
 -- what hands out no bytes goes on by one, or by two over a 62
 abbrev pub Hops : List ℕ → Sight → Type 0
@@ -26,15 +23,13 @@ Hops W (Say (Wait k)) = Unit {0}
 Hops W (Say (Tell t)) = 1 < gone (Say (Tell t)) → (gone (Say (Tell t)) ≡ 2) × (getD W 1 0 ≡ 0x62)
 Hops W (Say (Hand kind)) = Unit {0}
 
--- a good frame begins with B5
-front-byte : (max : ℕ) (W : List ℕ) (class id : ℕ) (payload : List ℕ) → GoodFrame max W class id payload → getD W 0 0 ≡ 0xB5
-front-byte max W class id payload g = rw (g .stands)
-
-module _ (move : List ℕ → Sight) (steady : Steady move) (max class id : ℕ) (payload : List ℕ)
-    (hands : (W : List ℕ) → GoodFrame max W class id payload → move W ≡ Say (Hand (Ubx class id (length payload))))
+-- what is good where it stands at a window's front: of any kind, it does not begin with 62, and is answered at its place by `out`
+module _ (move : List ℕ → Sight) (steady : Steady move) (Good : List ℕ → Type 0) (out : ℕ → Event)
+    (hands : (p : ℕ) (W : List ℕ) → Good W → says p W (move W) ≡ out p ∷ [])
+    (front : (W : List ℕ) → Good W → getD W 0 0 ≡ 0x62 → ⊥)
     (hops : (W : List ℕ) → Hops W (move W)) where
   abbrev KeptIn : List Event → ℕ → ℕ → Type 0
-  KeptIn es q p = Kept es q p (handOut p class id payload)
+  KeptIn es q p = Kept es q p (out p)
 
   later : (es fs : List Event) (q p : ℕ) → KeptIn fs q p → KeptIn (es ++ fs) q p
   later es fs q p (handed m) = handed (among-right es m)
@@ -42,19 +37,18 @@ module _ (move : List ℕ → Sight) (steady : Steady move) (max class id : ℕ)
   later es fs q p (unfinished t) = unfinished t
 
   -- at the front of the window: it is handed out
-  first : (p : ℕ) (W : List ℕ) (es : List Event) (q : ℕ) → GoodFrame max W class id payload → KeptIn (says p W (move W) ++ es) q p
-  first p W es q g = rw (hands W g, body-at class id payload _ _ (g .rest) W (g .stands)) (handed (among-head refl))
+  first : (p : ℕ) (W : List ℕ) (es : List Event) (q : ℕ) → Good W → KeptIn (says p W (move W) ++ es) q p
+  first p W es q g = rw (hands p W g) (handed (among-head refl))
 
-  -- two bytes on over a 62, no good frame is jumped
-  no-jump : (j k : ℕ) (W : List ℕ) → 0 < j → j < k → (1 < k → (k ≡ 2) × (getD W 1 0 ≡ 0x62)) → GoodFrame max (drop j W) class id payload → ⊥
+  -- two bytes on over a 62, nothing good is jumped
+  no-jump : (j k : ℕ) (W : List ℕ) → 0 < j → j < k → (1 < k → (k ≡ 2) × (getD W 1 0 ≡ 0x62)) → Good (drop j W) → ⊥
   no-jump j k W some l hop g =
       let h = hop (omega arith) in
       let one : j ≡ 1 = omega (arith, h .0) in
-      let b : getD W 1 0 ≡ 0xB5 = sym (getD-drop 1 W 0 0) ∙ front-byte max (drop 1 W) class id payload (rw one at g) in
-      omega (arith, h .1, b)
+      front (drop 1 W) (rw one at g) (getD-drop 1 W 0 0 ∙ h .1)
 
   -- before its place: it lies inside a frame that is handed out there, or nothing jumps it
-  before : (p j : ℕ) (W : List ℕ) (es : List Event) (q : ℕ) (m : Sight) → ends m ≡ false → gone m ≤ length W → Hops W m → 0 < j → j < gone m → GoodFrame max (drop j W) class id payload
+  before : (p j : ℕ) (W : List ℕ) (es : List Event) (q : ℕ) (m : Sight) → ends m ≡ false → gone m ≤ length W → Hops W m → 0 < j → j < gone m → Good (drop j W)
       → KeptIn (says p W m ++ es) q (p + j)
   before p j W es q (Pass y) n w hop some l g = absurd (no-jump j (gone (Pass y)) W some l hop g)
   before p j W es q (Say (Wait k)) n w hop some l g = absurd (true≢false n)
@@ -62,13 +56,13 @@ module _ (move : List ℕ → Sight) (steady : Steady move) (max class id : ℕ)
   before p j W es q (Say (Hand kind)) n w hop some l g =
       inside (record { at = p; said = frameSaid kind (body kind W) }) (among-head refl) (omega arith) (rw (span-whole kind W w) (omega arith))
 
-  pub kept : {p q : ℕ} {W X : List ℕ} {es : List Event} → Walk move p W es q X → (j : ℕ) → GoodFrame max (drop j W) class id payload → KeptIn es q (p + j)
+  pub kept : {p q : ℕ} {W X : List ℕ} {es : List Event} → Walk move p W es q X → (j : ℕ) → Good (drop j W) → KeptIn es q (p + j)
   kept (here {p} {W}) j g = unfinished (omega arith)
   kept (turn {p} {q} {W} {X} {es} e w) zero g = rw add-zero (first p W es q g)
   kept (turn {p} {q} {W} {X} {es} e w) (suc i) g = go (leb (gone (move W)) (suc i)) refl (λ j h. kept w j h)
     where
       go : (b : Bool) → leb (gone (move W)) (suc i) ≡ b
-          → ((j : ℕ) → GoodFrame max (drop j (drop (gone (move W)) W)) class id payload → KeptIn es q (p + gone (move W) + j))
+          → ((j : ℕ) → Good (drop j (drop (gone (move W)) W)) → KeptIn es q (p + gone (move W) + j))
           → KeptIn (says p W (move W) ++ es) q (p + suc i)
       go true t ih =
           let l : gone (move W) ≤ suc i = leb-true _ _ t in

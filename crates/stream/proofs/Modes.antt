@@ -1,6 +1,6 @@
 -- The looks of modes one and two: more bytes do not change them, and demand 3's carry has room for what they claim.
 use mathlib.Core.Path.{_≡_, sym}
-use mathlib.Core.Bool.{true, false, true≢false}
+use mathlib.Core.Bool.{Bool, true, false, true≢false}
 use mathlib.Core.List.{List, [], _∷_, _++_}
 use Prim.Native.Nat.{ℕ, _+_, _*_, _≤_, _<_}
 use native.Mathlib.Omega.{arith}
@@ -8,12 +8,12 @@ use lib.ListN.{length, getD, length-append, List·getD-append}
 use lib.Dec.{ltb, eqb}
 use borrow.Author.Tests.{ltb-true, ltb-false, le-ltb}
 use Rattle.window.specs.declared.Mode.{Mode, the-variants.{One, Two, Three}}
-use Rattle.window.specs.Sync.{isSync}
+use Rattle.window.specs.Sync.{hasParity, isSync}
 use Rattle.window.proofs.Pick.{by-pick, pick-true, pick-false}
 use Rattle.window.specs.Pick.{pick}
 use Rattle.look.specs.declared.Why.the-variants.{NoSync}
 use Rattle.look.specs.declared.Sight.the-variants.{Pass}
-use Rattle.look.specs.Rules.{Look, lookUbx, lookRtcm, look}
+use Rattle.look.specs.Rules.{around, Look, lookUbx, lookRtcm, look}
 use Rattle.look.proofs.Within.{look-in}
 use Rattle.stream.specs.Demand.{Roomy}
 use Rattle.stream.specs.Scan.{scanMove, HasScan}
@@ -47,19 +47,19 @@ ubx-grow max W Z =
     let b : (i : ℕ) → i < 6 → getD (W ++ Z) i 0 ≡ getD W i 0 = byte-grow W Z 6 h6 in
     simp (e2, e6, g1, t, b 2 (omega arith), b 3 (omega arith), b 4 (omega arith), b 5 (omega arith), pick-false))))
 
-rtcm-grow : (W Z : List ℕ) → isNeed (lookRtcm W) ≡ false → lookRtcm (W ++ Z) ≡ lookRtcm W
+rtcm-grow : (parity : Bool) (W Z : List ℕ) → isNeed (lookRtcm parity W) ≡ false → lookRtcm parity (W ++ Z) ≡ lookRtcm parity W
 unfolding lookRtcm
-rtcm-grow W Z =
-    by-pick (λ l. isNeed l ≡ false → lookRtcm (W ++ Z) ≡ l) (λ _ e. absurd (true≢false e))
+rtcm-grow parity W Z =
+    by-pick (λ l. isNeed l ≡ false → lookRtcm parity (W ++ Z) ≡ l) (λ _ e. absurd (true≢false e))
     (λ t _.
     let h : 3 ≤ length W = ltb-false (length W) 3 t in
     simp (enough-grow W Z 3 h, byte-grow W Z 3 h 1 (omega arith), byte-grow W Z 3 h 2 (omega arith), pick-false))
 
 -- a sync byte of theirs that is not B5 is D3
-no-other : (mode : Mode) (b : ℕ) → HasScan mode → isSync mode b ≡ true → eqb b 0xB5 ≡ false → eqb b 0xD3 ≡ false → ⊥
-no-other One b h t e d = true≢false (sym (rw e at t))
-no-other Two b h t e d = true≢false (sym (rw (e, d) at t))
-no-other Three b h t e d = h
+pub no-other : (mode : Mode) (b : ℕ) → HasScan mode → isSync mode b ≡ true → eqb b 0xB5 ≡ false → eqb b 0xD3 ≡ false → ⊥
+no-other (One parity) b h t e d = true≢false (sym (rw e at t))
+no-other (Two parity) b h t e d = true≢false (sym (rw (e, d) at t))
+no-other (Three parity) b h t e d = h
 
 pub steady-look : (mode : Mode) (max : ℕ) → HasScan mode → SteadyLook (look mode max)
 unfolding look
@@ -71,7 +71,7 @@ steady-look mode max has = record { grow = grows; inside = look-in mode max }
         let P : Look → Type 0 = λ l. isNeed l ≡ false → look mode max (b ∷ (bs ++ Z)) ≡ l in
         by-pick P
         (λ t. by-pick P (λ t5 e. rw (t, t5) (simp pick-true (ubx-grow max (b ∷ bs) Z e)))
-        (λ t5. by-pick P (λ t3 e. rw (t, t5, t3) (simp (pick-true, pick-false) (rtcm-grow (b ∷ bs) Z e)))
+        (λ t5. by-pick P (λ t3 e. rw (t, t5, t3) (simp (pick-true, pick-false) (rtcm-grow (hasParity mode) (b ∷ bs) Z e)))
         (λ t3. absurd (no-other mode b has t t5 t3))))
         (λ t _. simp (t, pick-false))
 
@@ -94,25 +94,25 @@ ubx-fit max cap h W =
     (λ _. by-pick (Fit cap (length W)) (λ t. omega (arith, ltb-true (length W) 6 t))
     (λ _. by-pick (Fit cap (length W)) (λ _. tt) (λ t. omega (arith, ltb-false max (getD W 4 0 + 256 * getD W 5 0) t)))))
 
-rtcm-fit : (cap : ℕ) → 1026 ≤ cap → (W : List ℕ) → Fit cap (length W) (lookRtcm W)
+rtcm-fit : (parity : Bool) (cap : ℕ) → 1023 + around parity ≤ cap → (W : List ℕ) → Fit cap (length W) (lookRtcm parity W)
 unfolding lookRtcm
-rtcm-fit cap h W = by-pick (Fit cap (length W)) (λ t. omega (arith, ltb-true (length W) 3 t)) (λ _. omega arith)
+rtcm-fit parity cap h W = by-pick (Fit cap (length W)) (λ t. omega (arith, ltb-true (length W) 3 t)) (λ _. omega arith)
 
 module _ (max cap : ℕ) where
   pub has-scan : (mode : Mode) → Roomy mode max cap → HasScan mode
-  has-scan One h = tt
-  has-scan Two h = tt
-  has-scan Three h = absurd h
+  has-scan (One parity) h = tt
+  has-scan (Two parity) h = tt
+  has-scan (Three parity) h = absurd h
 
   ubx-room : (mode : Mode) → Roomy mode max cap → max + 7 ≤ cap
-  ubx-room One h = omega arith
-  ubx-room Two h = omega arith
-  ubx-room Three h = absurd h
+  ubx-room (One parity) h = omega arith
+  ubx-room (Two parity) h = omega arith
+  ubx-room (Three parity) h = absurd h
 
-  rtcm-room : (mode : Mode) (b : ℕ) → Roomy mode max cap → isSync mode b ≡ true → eqb b 0xB5 ≡ false → 1026 ≤ cap
-  rtcm-room One b h t e = absurd (true≢false (sym (rw e at t)))
-  rtcm-room Two b h t e = omega arith
-  rtcm-room Three b h t e = absurd h
+  rtcm-room : (mode : Mode) (b : ℕ) → Roomy mode max cap → isSync mode b ≡ true → eqb b 0xB5 ≡ false → 1023 + around (hasParity mode) ≤ cap
+  rtcm-room (One parity) b h t e = absurd (true≢false (sym (rw e at t)))
+  rtcm-room (Two parity) b h t e = omega arith
+  rtcm-room (Three parity) b h t e = absurd h
 
   pub look-fit : (mode : Mode) → Roomy mode max cap → (W : List ℕ) → Fit cap (length W) (look mode max W)
   unfolding look
@@ -121,6 +121,6 @@ module _ (max cap : ℕ) where
       let P : Look → Type 0 = Fit cap (length (b ∷ bs)) in
       by-pick P
       (λ t. by-pick P (λ _. ubx-fit max cap (ubx-room mode h) (b ∷ bs))
-      (λ t5. by-pick P (λ _. rtcm-fit cap (rtcm-room mode b h t t5) (b ∷ bs))
+      (λ t5. by-pick P (λ _. rtcm-fit (hasParity mode) cap (rtcm-room mode b h t t5) (b ∷ bs))
       (λ t3. absurd (no-other mode b (has-scan mode h) t t5 t3))))
       (λ _. tt)

@@ -1,7 +1,7 @@
 -- No good frame is lost in modes one and two; and what that says in mode one of bytes before a good frame.
 use mathlib.Core.Path.{_≡_, refl, sym}
 use mathlib.Core.Bool.{Bool, true, false, true≢false}
-use mathlib.Core.List.{List, _∷_, _++_, List·Memᴰ as Among, List·Memᴰ·not-nil as among-nil}
+use mathlib.Core.List.{List, [], _∷_, _++_, List·Memᴰ as Among, List·Memᴰ·not-nil as among-nil}
 use Prim.Native.Nat.{ℕ, _≤_, _<_}
 use native.Mathlib.Nat.{zero-add}
 use native.Mathlib.Omega.{arith}
@@ -19,17 +19,26 @@ use Rattle.look.proofs.Rules.{ubx-other}
 use Rattle.stream.specs.Scan.{Event, scanMove, scan, HasScan}
 use Rattle.stream.specs.Interface.{frame, GoodFrame}
 use Rattle.stream.specs.Frames.{handOut, Kept, handed, inside, unfinished, NoGoodFrameIsLost, OneStrayByte, AnyBytesWithoutB5}
-use Rattle.stream.proofs.Walks.{ends, said-at}
+use Rattle.stream.proofs.Walks.{ends, says, said-at}
 use Rattle.stream.proofs.Modes.{steady-scan, scan-noise}
 use Rattle.stream.proofs.Scans.{scan-walks, scan-tail}
+use Rattle.stream.proofs.Framed.{body-at}
 use Rattle.stream.proofs.Interface.{good-hands}
 use Rattle.stream.proofs.Lost.{kept}
 use Rattle.stream.proofs.Jumps.{scan-hops}
 
+-- a good frame's answer, and its first byte
+good-said : (mode : Mode) (max class id : ℕ) (payload : List ℕ) (p : ℕ) (W : List ℕ) → GoodFrame max W class id payload
+    → says p W (scanMove mode max W) ≡ handOut p class id payload ∷ []
+good-said mode max class id payload p W g = rw (good-hands mode max W class id payload g, body-at class id payload _ _ (g .rest) W (g .stands))
+
+front-byte : (max : ℕ) (W : List ℕ) (class id : ℕ) (payload : List ℕ) → GoodFrame max W class id payload → getD W 0 0 ≡ 0x62 → ⊥
+front-byte max W class id payload g e = let b : getD W 0 0 ≡ 0xB5 = rw (g .stands) in omega arith
+
 pub no-good-frame-is-lost : NoGoodFrameIsLost
 no-good-frame-is-lost mode max has stream p class id payload g =
-    rw zero-add at (kept (scanMove mode max) (steady-scan mode max has) max class id payload (λ W h. good-hands mode max W class id payload h) (scan-hops mode max)
-    (scan-walks mode max has stream .0) p g)
+    rw zero-add at (kept (scanMove mode max) (steady-scan mode max has) (λ W. GoodFrame max W class id payload) (λ i. handOut i class id payload)
+    (good-said mode max class id payload) (λ W. front-byte max W class id payload) (scan-hops mode max) (scan-walks mode max has stream .0) p g)
 
 -- ---- where every byte before it is passed in silence, a good frame is handed out
 
@@ -72,14 +81,14 @@ stray-passed mode max stray bs more = go (eqb stray 0xB5) refl
     go false e = (NoSync, rw (e, more))
 
 pub one-stray-byte : OneStrayByte
-one-stray-byte max stray class id payload rest h =
-    heard-out _ max tt (stray ∷ (frame class id payload ++ rest)) 1 class id payload (record { fits = h; rest = rest; stands = refl })
-    (λ k l. let z : k ≡ 0 = omega arith in rw z (stray-passed _ max stray _ refl))
+one-stray-byte parity max stray class id payload rest h =
+    heard-out (One parity) max tt (stray ∷ (frame class id payload ++ rest)) 1 class id payload (record { fits = h; rest = rest; stands = refl })
+    (λ k l. let z : k ≡ 0 = omega arith in rw z (stray-passed (One parity) max stray _ refl))
 
 pub any-bytes-without-b5 : AnyBytesWithoutB5
-any-bytes-without-b5 max noise none class id payload rest h =
+any-bytes-without-b5 parity max noise none class id payload rest h =
     let F = frame class id payload ++ rest in
-    heard-out One max tt (noise ++ F) (length noise) class id payload (record { fits = h; rest = rest; stands = drop-at noise F (length noise) refl })
+    heard-out (One parity) max tt (noise ++ F) (length noise) class id payload (record { fits = h; rest = rest; stands = drop-at noise F (length noise) refl })
     (λ k l.
-    let b : isSync One (getD noise k 0) ≡ false = rw (ne-eqb (getD noise k 0) 0xB5 (none k)) in
-    (NoSync, rw (drop-append-le k noise F (omega arith), drop-cons noise k 0 l) (scan-noise One max (getD noise k 0) _ b)))
+    let b : isSync (One parity) (getD noise k 0) ≡ false = rw (ne-eqb (getD noise k 0) 0xB5 (none k)) in
+    (NoSync, rw (drop-append-le k noise F (omega arith), drop-cons noise k 0 l) (scan-noise (One parity) max (getD noise k 0) _ b)))

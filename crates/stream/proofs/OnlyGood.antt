@@ -8,61 +8,47 @@ use lib.ListN.{length, take, drop, length-drop}
 use lib.Seq.{getD-drop, length-take-le}
 use Rattle.window.specs.declared.Mode.{Mode}
 use Rattle.look.specs.declared.Kind.{Kind, the-variants.{Ubx, Rtcm, Sentence}}
-use Rattle.look.specs.declared.Tale.{Tale, the-variants.{WrongSum, NoRoom}}
+use Rattle.look.specs.declared.Tale.{Tale, the-variants.{WrongSum, WrongParity, NoRoom}}
 use Rattle.look.specs.declared.Verdict.the-variants.{Wait, Tell, Hand}
 use Rattle.look.specs.declared.Sight.{Sight, the-variants.{Pass, Say}}
-use Rattle.look.specs.Passed.{whole}
+use Rattle.look.specs.Within.{whole}
 use Rattle.stream.specs.Scan.{ubxFrame, wrongSum, Event, taleSaid, frameSaid, body, scanMove, HasScan}
 use Rattle.stream.specs.Interface.{GoodFrame, WrongFrame, Bytes}
 use Rattle.stream.specs.Frames.{bodyOf, OnlyGoodFrames, OnlyWrongSums}
-use Rattle.stream.proofs.Walks.{says, said-at}
+use Rattle.stream.proofs.Walks.{SaidBy, byTale, byFrame, said-by, said-at}
 use Rattle.stream.proofs.Modes.{steady-scan}
 use Rattle.stream.proofs.Scans.{scan-walks}
 use Rattle.stream.proofs.Framed.{body-at}
 use Rattle.stream.proofs.Interface.{scan-says-frame, wrong-at}
 
 -- an answer with a body is a frame's, and one with a pair a wrong sum's
-frame-of : (p : ℕ) (W : List ℕ) (m : Sight) (e : Event) → Among e (says p W m) → (class id : ℕ) (b : List ℕ) → e .said ≡ ubxFrame class id b
+frame-of : (W : List ℕ) (m : Sight) (e : Event) → SaidBy W e m → (class id : ℕ) (b : List ℕ) → e .said ≡ ubxFrame class id b
     → (n : ℕ) × (m ≡ Say (Hand (Ubx class id n))) × (b ≡ body (Ubx class id n) W)
-frame-of p W (Pass y) e a class id b s = absurd (among-nil a)
-frame-of p W (Say (Wait k)) e a class id b s = absurd (among-nil a)
-frame-of p W (Say (Tell t)) e a class id b s = absurd (no t (sym (ap (λ (x : Event). x .said) (among-one a)) ∙ s))
-  where
-    no : (t : Tale) → taleSaid t ≡ ubxFrame class id b → ⊥
-    no (WrongSum c i n expect got) h = let z : _≡_ {A = ℕ} 0 1 = cc in omega arith
-    no (NoRoom drain size) h = let z : _≡_ {A = ℕ} 0 1 = cc in omega arith
-frame-of p W (Say (Hand kind)) e a class id b s = go kind (sym (ap (λ (x : Event). x .said) (among-one a)) ∙ s)
-  where
-    go : (kind : Kind) → frameSaid kind (body kind W) ≡ ubxFrame class id b → (n : ℕ) × (Say (Hand kind) ≡ Say (Hand (Ubx class id n))) × (b ≡ body (Ubx class id n) W)
-    go (Ubx c i n) h =
-        let ec : c ≡ class = cc in
-        let ei : i ≡ id = cc in
-        let eb : b ≡ take (n + 2) (drop 6 W) = cc in
-        (n, rw (ec, ei), eb)
-    go (Rtcm n) h = let z : _≡_ {A = ℕ} 0 1 = cc in absurd (omega arith)
-    go (Sentence i) h = let z : _≡_ {A = ℕ} 0 1 = cc in absurd (omega arith)
+frame-of W _ e (byTale (WrongSum c i n expect got) h) class id b s = let z : _≡_ {A = ℕ} 0 1 = cc in absurd (omega arith)
+frame-of W _ e (byTale (WrongParity expect got) h) class id b s = let z : _≡_ {A = ℕ} 0 1 = cc in absurd (omega arith)
+frame-of W _ e (byTale (NoRoom drain size) h) class id b s = let z : _≡_ {A = ℕ} 0 1 = cc in absurd (omega arith)
+frame-of W _ e (byFrame (Ubx c i n) h) class id b s =
+    let ec : c ≡ class = cc in
+    let ei : i ≡ id = cc in
+    let eb : b ≡ take (n + 2) (drop 6 W) = cc in
+    (n, rw (ec, ei), eb)
+frame-of W _ e (byFrame (Rtcm n parity) h) class id b s = let z : _≡_ {A = ℕ} 0 1 = cc in absurd (omega arith)
+frame-of W _ e (byFrame (Sentence i) h) class id b s = let z : _≡_ {A = ℕ} 0 1 = cc in absurd (omega arith)
 
-wrong-of : (p : ℕ) (W : List ℕ) (m : Sight) (e : Event) → Among e (says p W m) → (class id n expect got : ℕ) → e .said ≡ wrongSum class id n expect got
+wrong-of : (W : List ℕ) (m : Sight) (e : Event) → SaidBy W e m → (class id n expect got : ℕ) → e .said ≡ wrongSum class id n expect got
     → m ≡ Say (Tell (WrongSum class id n expect got))
-wrong-of p W (Pass y) e a class id n expect got s = absurd (among-nil a)
-wrong-of p W (Say (Wait k)) e a class id n expect got s = absurd (among-nil a)
-wrong-of p W (Say (Tell t)) e a class id n expect got s = go t (sym (ap (λ (x : Event). x .said) (among-one a)) ∙ s)
-  where
-    go : (t : Tale) → taleSaid t ≡ wrongSum class id n expect got → Say (Tell t) ≡ Say (Tell (WrongSum class id n expect got))
-    go (WrongSum c i m x y) h =
-        let ec : c ≡ class = cc in
-        let ei : i ≡ id = cc in
-        let en : m ≡ n = cc in
-        let ex : x ≡ expect = cc in
-        let ey : y ≡ got = cc in
-        rw (ec, ei, en, ex, ey)
-    go (NoRoom drain size) h = let z : _≡_ {A = ℕ} 0 1 = cc in absurd (omega arith)
-wrong-of p W (Say (Hand kind)) e a class id n expect got s = absurd (no kind (sym (ap (λ (x : Event). x .said) (among-one a)) ∙ s))
-  where
-    no : (kind : Kind) → frameSaid kind (body kind W) ≡ wrongSum class id n expect got → ⊥
-    no (Ubx c i m) h = let z : _≡_ {A = ℕ} 0 1 = cc in omega arith
-    no (Rtcm m) h = let z : _≡_ {A = ℕ} 0 1 = cc in omega arith
-    no (Sentence i) h = let z : _≡_ {A = ℕ} 0 1 = cc in omega arith
+wrong-of W _ e (byTale (WrongSum c i m x y) h) class id n expect got s =
+    let ec : c ≡ class = cc in
+    let ei : i ≡ id = cc in
+    let en : m ≡ n = cc in
+    let ex : x ≡ expect = cc in
+    let ey : y ≡ got = cc in
+    rw (ec, ei, en, ex, ey)
+wrong-of W _ e (byTale (WrongParity x y) h) class id n expect got s = let z : _≡_ {A = ℕ} 0 1 = cc in absurd (omega arith)
+wrong-of W _ e (byTale (NoRoom drain size) h) class id n expect got s = let z : _≡_ {A = ℕ} 0 1 = cc in absurd (omega arith)
+wrong-of W _ e (byFrame (Ubx c i m) h) class id n expect got s = let z : _≡_ {A = ℕ} 0 1 = cc in absurd (omega arith)
+wrong-of W _ e (byFrame (Rtcm m parity) h) class id n expect got s = let z : _≡_ {A = ℕ} 0 1 = cc in absurd (omega arith)
+wrong-of W _ e (byFrame (Sentence i) h) class id n expect got s = let z : _≡_ {A = ℕ} 0 1 = cc in absurd (omega arith)
 
 pub bytes-on : (W : List ℕ) (k : ℕ) → Bytes W → Bytes (drop k W)
 bytes-on W k b i = rw getD-drop (b (k + i))
@@ -82,7 +68,7 @@ only-good-frames mode max has stream bytes e a class id b s =
     let (k, at, m) = said-at (scanMove mode max) (scan-walks mode max has stream .0) e a in
     let p : e .at ≡ k = at ∙ zero-add k in
     let W = drop k stream in
-    let f = frame-of (0 + k) W (scanMove mode max W) e m class id b s in
+    let f = frame-of W (scanMove mode max W) e (said-by (0 + k) W (scanMove mode max W) e m) class id b s in
     let g = good-at mode max has W (bytes-on stream k bytes) class id (f .0) (f .1) in
     (g .0, subst (λ (i : ℕ). GoodFrame max (drop i stream) class id (g .0)) (sym p) (g .1), f .2 ∙ g .2)
 
@@ -91,5 +77,5 @@ only-wrong-sums mode max has stream bytes e a class id n expect got s =
     let (k, at, m) = said-at (scanMove mode max) (scan-walks mode max has stream .0) e a in
     let p : e .at ≡ k = at ∙ zero-add k in
     let W = drop k stream in
-    let (payload, w, len) = wrong-at mode max W (bytes-on stream k bytes) class id n expect got (wrong-of (0 + k) W (scanMove mode max W) e m class id n expect got s) in
+    let (payload, w, len) = wrong-at mode max W (bytes-on stream k bytes) class id n expect got (wrong-of W (scanMove mode max W) e (said-by (0 + k) W (scanMove mode max W) e m) class id n expect got s) in
     (payload, subst (λ (i : ℕ). WrongFrame max (drop i stream) class id payload expect got) (sym p) w, len)

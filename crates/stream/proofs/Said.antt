@@ -13,12 +13,12 @@ use Rattle.window.specs.declared.Mode.{Mode}
 use Rattle.window.specs.Pick.{pick}
 use Rattle.window.proofs.Pick.{by-pick}
 use Rattle.look.specs.declared.Kind.{Kind, the-variants.{Ubx, Rtcm, Sentence}}
-use Rattle.look.specs.declared.Tale.the-variants.{WrongSum, NoRoom}
+use Rattle.look.specs.declared.Tale.the-variants.{WrongSum, WrongParity, NoRoom}
 use Rattle.look.specs.declared.Verdict.{Verdict, the-variants.{Wait, Tell, Hand}}
 use Rattle.look.specs.declared.Sight.{Sight, the-variants.{Say}}
 use Rattle.look.specs.Rules.{back, size, Look, need, pass, claim, look}
 use Rattle.look.specs.Moves.{judgeSum, judge, lacks, settle}
-use Rattle.look.specs.Passed.{whole}
+use Rattle.look.specs.Within.{whole}
 use Rattle.stream.specs.Interface.{checksum, summed, framed, GoodFrame, WrongFrame, Bytes}
 use Rattle.stream.proofs.Checksum.{checksum-is}
 use Rattle.stream.proofs.Framed.{claims, judged, payload-at, claimed}
@@ -28,10 +28,16 @@ use Rattle.stream.proofs.Framed.{claims, judged, payload-at, claimed}
 abbrev OfSum : Verdict → Type 0
 OfSum (Wait k) = ⊥
 OfSum (Tell (WrongSum class id n expect got)) = Unit {0}
+OfSum (Tell (WrongParity expect got)) = ⊥
 OfSum (Tell (NoRoom drain size)) = ⊥
 OfSum (Hand (Ubx class id n)) = Unit {0}
-OfSum (Hand (Rtcm n)) = ⊥
+OfSum (Hand (Rtcm n parity)) = ⊥
 OfSum (Hand (Sentence i)) = ⊥
+
+rtcm-no-sum : (n : ℕ) (parity : Bool) (W : List ℕ) → OfSum (judge (Rtcm n parity) W) → ⊥
+unfolding judge
+rtcm-no-sum n true W = by-pick (λ v. OfSum v → ⊥) (λ _ h. h) (λ _ h. h)
+rtcm-no-sum n false W = λ h. h
 
 -- both sums, and each of the two outcomes
 tests-true : (s t : Bool) → (s && t) ≡ true → (s ≡ true) × (t ≡ true)
@@ -73,7 +79,7 @@ module _ (fits : Kind → Bool) (over : Bool) (W : List ℕ) where
 
   by-judge : (kind : Kind) (v : Verdict) → OfSum v → fits kind ≡ true → judge kind W ≡ v → ByClaim (claim kind) v
   by-judge (Ubx class id n) v o f = λ e. (class, id, n, refl, f, e)
-  by-judge (Rtcm n) v o f = λ e. absurd (let x : OfSum (judge (Rtcm n) W) = rw e o in unfold judge in x)
+  by-judge (Rtcm n parity) v o f = λ e. absurd (rtcm-no-sum n parity W (rw e o))
   by-judge (Sentence i) v o f = λ e. absurd (let x : OfSum (judge (Sentence i) W) = rw e o in unfold judge in x)
 
   by-lacks : (drain size : ℕ) (o : Bool) → OfSum (lacks o drain size) → ⊥

@@ -6,11 +6,11 @@ use native.Mathlib.Omega.{arith}
 use lib.ListN.{length, drop}
 use lib.Seq.{drop-drop}
 use Rattle.look.specs.declared.Kind.{Kind, the-variants.{Ubx, Rtcm, Sentence}}
-use Rattle.look.specs.declared.Tale.{Tale, the-variants.{WrongSum as TaleWrongSum, NoRoom}}
+use Rattle.look.specs.declared.Tale.{Tale, the-variants.{WrongSum as TaleWrongSum, WrongParity as TaleWrongParity, NoRoom}}
 use Rattle.look.specs.declared.Verdict.{Verdict, the-variants.{Wait, Tell, Hand}}
 use Rattle.look.specs.declared.Sight.{Sight, the-variants.{Pass, Say}}
 use Rattle.look.specs.Rules.{skip, size, far}
-use Rattle.look.specs.Passed.{Moves}
+use Rattle.look.specs.Within.{Moves}
 use Rattle.state.specs.declared.State.{State}
 use Rattle.state.specs.declared.Leave.{Leave, the-variants.{Granted, Denied}}
 use Rattle.state.specs.Words.{leftLen, window, width, drain}
@@ -39,13 +39,14 @@ module _ (carry chunk : List ℕ) (class id n p expect got : ℕ) where
 
   no-frame : (kind : Kind) (q : ℕ) (place : Place) → frameAt kind q place ≡ WrongSum class id n p expect got → ⊥
   no-frame (Ubx c i m) q place h = let z : _≡_ {A = ℕ} 0 1 = cc in omega arith
-  no-frame (Rtcm m) q place h = let z : _≡_ {A = ℕ} 0 1 = cc in omega arith
+  no-frame (Rtcm m parity) q place h = let z : _≡_ {A = ℕ} 0 1 = cc in omega arith
   no-frame (Sentence i) q place h = let z : _≡_ {A = ℕ} 0 1 = cc in omega arith
 
   module _ (s : State) (bytes : Bytes (window s carry chunk)) where
     -- where it is said, it stands at the front
     said-stands : (v : Verdict) → moveOf s carry chunk ≡ Say v → Says (say s carry chunk v) → Stands s
     said-stands (Wait k) m h = let z : _≡_ {A = ℕ} 0 1 = cc in absurd (omega arith)
+    said-stands (Tell (TaleWrongParity x y)) m h = let z : _≡_ {A = ℕ} 0 1 = cc in absurd (omega arith)
     said-stands (Tell (NoRoom k l)) m h = let z : _≡_ {A = ℕ} 0 1 = cc in absurd (omega arith)
     said-stands (Tell (TaleWrongSum c i l x y)) m h =
         let ec : c ≡ class = cc in

@@ -14,11 +14,12 @@ use Rattle.look.specs.declared.Verdict.the-variants.{Wait, Tell, Hand}
 use Rattle.look.specs.declared.Sight.{Sight, the-variants.{Pass, Say}}
 use Rattle.look.specs.Rules.{size, Look, need, pass, claim}
 use Rattle.look.specs.Moves.{settled}
-use Rattle.look.specs.Passed.{whole, Moves}
+use Rattle.look.specs.Within.{whole, Moves}
 use Rattle.look.proofs.Within.{In, settled-in}
 use Rattle.stream.specs.Scan.{scanSight}
 use Rattle.stream.proofs.Walks.{ends, gone, Steady}
-use Rattle.stream.proofs.Cases.{judge-ends, judge-grow}
+use Rattle.look.proofs.Grow.{judge-grow}
+use Rattle.stream.proofs.Cases.{judge-ends}
 
 abbrev pub isNeed : Look → Bool
 isNeed (need k) = true

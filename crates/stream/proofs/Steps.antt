@@ -14,7 +14,7 @@ use Rattle.look.specs.declared.Verdict.the-variants.{Wait, Tell, Hand}
 use Rattle.look.specs.declared.Sight.{Sight, the-variants.{Pass, Say}}
 use Rattle.look.specs.Rules.{skip, size, far}
 use Rattle.look.specs.Moves.{cost}
-use Rattle.look.specs.Passed.{whole, Moves}
+use Rattle.look.specs.Within.{whole, Moves}
 use Rattle.state.specs.declared.State.{State}
 use Rattle.state.specs.declared.Leave.the-variants.{Granted}
 use Rattle.state.specs.Words.{leftLen, window, width, drain}

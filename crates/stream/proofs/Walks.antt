@@ -8,11 +8,13 @@ use native.Mathlib.Nat.{add-zero}
 use native.Mathlib.Omega.{arith}
 use lib.ListN.{length, drop, length-drop}
 use lib.Seq.{take-append-le, drop-append-le, drop-drop}
+use Rattle.look.specs.declared.Kind.{Kind}
+use Rattle.look.specs.declared.Tale.{Tale}
 use Rattle.look.specs.declared.Verdict.the-variants.{Wait, Tell, Hand}
 use Rattle.look.specs.declared.Sight.{Sight, the-variants.{Pass, Say}}
 use Rattle.look.specs.Rules.{skip, size, far}
 use Rattle.look.specs.Moves.{cost}
-use Rattle.look.specs.Passed.{whole}
+use Rattle.look.specs.Within.{whole}
 use Rattle.stream.specs.Scan.{Event, frameSaid, taleSaid, body, Scan, ended, scanAt, scanBy, scanFrom}
 
 -- ---- a move: whether it ends the scan, how far it goes on, and what it answers at position p
@@ -34,6 +36,17 @@ says p W (Pass y) = []
 says p W (Say (Wait k)) = []
 says p W (Say (Tell t)) = record { at = p; said = taleSaid t } ∷ []
 says p W (Say (Hand kind)) = record { at = p; said = frameSaid kind (body kind W) } ∷ []
+
+-- by what an answer is said: a tale, or a frame that is handed out
+pub data SaidBy (W : List ℕ) (e : Event) : Sight → Type 0 where
+  byTale : (t : Tale) → e .said ≡ taleSaid t → SaidBy W e (Say (Tell t))
+  byFrame : (kind : Kind) → e .said ≡ frameSaid kind (body kind W) → SaidBy W e (Say (Hand kind))
+
+pub said-by : (p : ℕ) (W : List ℕ) (m : Sight) (e : Event) → Among e (says p W m) → SaidBy W e m
+said-by p W (Pass y) e a = absurd (among-nil a)
+said-by p W (Say (Wait k)) e a = absurd (among-nil a)
+said-by p W (Say (Tell t)) e a = byTale t (ap (λ (x : Event). x .said) (among-one a))
+said-by p W (Say (Hand kind)) e a = byFrame kind (ap (λ (x : Event). x .said) (among-one a))
 
 -- moves that more bytes do not change, and that go on by a byte at least and within the window
 pub record Steady (move : List ℕ → Sight) : Type 0 where

@@ -8,11 +8,11 @@ use Rattle.window.specs.declared.Mode.{Mode}
 use Rattle.state.specs.declared.State.{State}
 use Rattle.taking.specs.declared.Place.{Place}
 use Rattle.taking.specs.View.{mayView, view}
-use Rattle.framer.specs.declared.Answer.{Answer, the-variants.{UbxFrame, RtcmFrame, Sentence, WrongSum, NoRoom, NeedMore, Refused}}
+use Rattle.framer.specs.declared.Answer.{Answer, the-variants.{UbxFrame, RtcmFrame, Sentence, WrongSum, NoRoom, NeedMore, Refused, WrongParity}}
 use Rattle.framer.specs.Operations.{CloseOut, start, opening, closing}
 use Rattle.framer.specs.Step.{StepOut, step}
 use Rattle.framer.specs.Reached.{isDenied, isRefused}
-use Rattle.stream.specs.Scan.{Event, ubxFrame, rtcmFrame, sentence, wrongSum, noRoom}
+use Rattle.stream.specs.Scan.{Event, ubxFrame, rtcmFrame, sentence, wrongSum, wrongParity, noRoom}
 
 -- a parser: its state, the bytes of the carry lent to it, and what its closes so far reported as used
 pub record Parser : Type 0 where
@@ -70,6 +70,7 @@ heard base sight (WrongSum class id n p expect got) = record { at = base + p; sa
 heard base sight (NoRoom p size) = record { at = base + p; said = noRoom size } ∷ []
 heard base sight NeedMore = []
 heard base sight (Refused r) = []
+heard base sight (WrongParity p expect got) = record { at = base + p; said = wrongParity expect got } ∷ []
 
 unfoldable pub hears : Call → Parser → List Event
 hears (starts m mode max) p = []

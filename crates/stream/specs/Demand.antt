@@ -5,16 +5,18 @@ use mathlib.Core.Bool.{Bool, true, false}
 use mathlib.Core.List.{List, [], _∷_}
 use lib.ListN.{length, take}
 use Rattle.window.specs.declared.Mode.{Mode, the-variants.{One, Two, Three}}
+use Rattle.look.specs.Rules.{around}
 use Rattle.framer.specs.Operations.{start}
-use Rattle.stream.specs.Scan.{Said, ubxFrame, rtcmFrame, sentence, wrongSum, noRoom, Event, scan}
+use Rattle.stream.specs.Scan.{Said, ubxFrame, rtcmFrame, sentence, wrongSum, wrongParity, noRoom, Event, scan}
 use Rattle.stream.specs.Calls.{Parser, Call, afterAll, hearsAll, losesAll}
 use Rattle.stream.specs.Runs.{between, Follows, joined}
 
--- UBX mode, or UBX with RTCM; a carry of at least the payload limit plus 7 (with RTCM, also at least 1,026)
+-- UBX mode, or UBX with RTCM; a carry of at least the payload limit plus 7 (with RTCM, also at least the longest RTCM frame: 1,026,
+-- and with parity 1,029)
 abbrev pub Roomy : Mode → ℕ → ℕ → Type 0
-Roomy One max cap = max + 7 ≤ cap
-Roomy Two max cap = (max + 7 ≤ cap) × (1026 ≤ cap)
-Roomy Three max cap = ⊥
+Roomy (One parity) max cap = max + 7 ≤ cap
+Roomy (Two parity) max cap = (max + 7 ≤ cap) × (1023 + around parity ≤ cap)
+Roomy (Three parity) max cap = ⊥
 
 -- a fresh parser on this carry
 abbrev pub fresh : Mode → ℕ → List ℕ → Parser
@@ -34,6 +36,7 @@ isNoRoom (ubxFrame class id body) = false
 isNoRoom (rtcmFrame body) = false
 isNoRoom (sentence body) = false
 isNoRoom (wrongSum class id n expect got) = false
+isNoRoom (wrongParity expect got) = false
 isNoRoom (noRoom size) = true
 
 abbrev pub NeverNoRoom : List Event → Type 0
@@ -48,6 +51,10 @@ pub record CutFree (mode : Mode) (max : ℕ) (p : Parser) (calls : List Call) (s
   pub lost : losesAll calls p ≡ 0
   pub tail : holds (afterAll calls p) ≡ scan mode max stream .tail
   pub tailAt : afterAll calls p .base ≡ scan mode max stream .tailAt
+
+-- and such a carry is as long as any tail: a frame that is waited for is waited for so long at most
+abbrev pub TailFitsTheCarry : Type 0
+TailFitsTheCarry = (mode : Mode) (max cap : ℕ) → Roomy mode max cap → (stream : List ℕ) → length (scan mode max stream .tail) ≤ cap
 
 -- whatever the calls that put the chunks through a fresh parser
 abbrev pub EveryCuttingGivesTheScan : Type 0

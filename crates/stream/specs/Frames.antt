@@ -1,6 +1,7 @@
 -- The interface description's frames in a scan: no good frame is lost, and none but a good one is handed out.
 use mathlib.Core.Path.{_≡_}
 use Prim.Native.Nat.{ℕ, _+_, _-_, _≤_, _<_}
+use mathlib.Core.Bool.{Bool}
 use mathlib.Core.List.{List, [], _∷_, _++_, List·Memᴰ as Among}
 use lib.ListN.{length, getD, drop}
 use Rattle.window.specs.declared.Mode.{Mode, the-variants.{One}}
@@ -8,7 +9,7 @@ use Rattle.state.specs.declared.State.{State}
 use Rattle.state.specs.Words.{window}
 use Rattle.framer.specs.declared.Answer.the-variants.{WrongSum}
 use Rattle.framer.specs.Step.{step}
-use Rattle.stream.specs.Scan.{Said, ubxFrame, rtcmFrame, sentence, wrongSum, noRoom, Event, scan, HasScan}
+use Rattle.stream.specs.Scan.{Said, ubxFrame, rtcmFrame, sentence, wrongSum, wrongParity, noRoom, Event, scan, HasScan}
 use Rattle.stream.specs.Interface.{checksum, summed, frame, GoodFrame, WrongFrame, Bytes}
 
 -- how many bytes of the stream a frame that is handed out takes up, from its position on
@@ -17,6 +18,7 @@ span (ubxFrame class id body) = 6 + length body
 span (rtcmFrame body) = length body
 span (sentence body) = length body
 span (wrongSum class id n expect got) = 0
+span (wrongParity expect got) = 0
 span (noRoom size) = 0
 
 -- the answer that hands out a frame at p; the body is payload and two check bytes
@@ -42,13 +44,13 @@ NoGoodFrameIsLost =
 -- in mode one, any one byte before a good frame, and any bytes without B5, still give that frame at its place
 abbrev pub OneStrayByte : Type 0
 OneStrayByte =
-    (max stray class id : ℕ) (payload rest : List ℕ) → length payload ≤ max
-    → Among (handOut 1 class id payload) (scan One max (stray ∷ (frame class id payload ++ rest)) .answers)
+    (parity : Bool) (max stray class id : ℕ) (payload rest : List ℕ) → length payload ≤ max
+    → Among (handOut 1 class id payload) (scan (One parity) max (stray ∷ (frame class id payload ++ rest)) .answers)
 
 abbrev pub AnyBytesWithoutB5 : Type 0
 AnyBytesWithoutB5 =
-    (max : ℕ) (noise : List ℕ) → ((k : ℕ) → getD noise k 0 ≡ 0xB5 → ⊥) → (class id : ℕ) (payload rest : List ℕ) → length payload ≤ max
-    → Among (handOut (length noise) class id payload) (scan One max (noise ++ (frame class id payload ++ rest)) .answers)
+    (parity : Bool) (max : ℕ) (noise : List ℕ) → ((k : ℕ) → getD noise k 0 ≡ 0xB5 → ⊥) → (class id : ℕ) (payload rest : List ℕ) → length payload ≤ max
+    → Among (handOut (length noise) class id payload) (scan (One parity) max (noise ++ (frame class id payload ++ rest)) .answers)
 
 -- every UBX frame that is handed out is a good one that stands there, and every wrong sum is one that stands there: class, id and
 -- length are its head's, and the pair is the true one

@@ -5,3 +5,5 @@ pub mod Demand
 pub mod Interface
 pub mod Frames
 pub mod WeakSpot
+pub mod Rtcm
+pub mod RtcmFrames

@@ -6,14 +6,14 @@ use lib.ListN.{length, take, drop}
 use lib.Dec.{leb}
 use Rattle.window.specs.declared.Mode.{Mode, the-variants.{One, Two, Three}}
 use Rattle.look.specs.declared.Kind.{Kind, the-variants.{Ubx, Rtcm, Sentence}}
-use Rattle.look.specs.declared.Tale.{Tale, the-variants.{WrongSum, NoRoom}}
+use Rattle.look.specs.declared.Tale.{Tale, the-variants.{WrongSum, WrongParity, NoRoom}}
 use Rattle.look.specs.declared.Verdict.the-variants.{Wait, Tell, Hand}
 use Rattle.look.specs.declared.Sight.{Sight, the-variants.{Pass, Say}}
 use Rattle.look.specs.Rules.{skip, size, far, Look, look}
 use Rattle.look.specs.Moves.{cost, settle}
-use Rattle.look.specs.Passed.{whole}
+use Rattle.look.specs.Within.{whole}
 
--- ---- an answer as it is compared: by kind, class, id, sums and the bytes viewed, at its stream position
+-- ---- an answer as it is compared: by kind, class, id, sums, parities and the bytes viewed, at its stream position
 
 pub data Said : Type 0 where
   -- class, id, and the body: payload and two check bytes
@@ -22,6 +22,8 @@ pub data Said : Type 0 where
   sentence : List ℕ → Said
   -- class, id and length, expect and got
   wrongSum : ℕ → ℕ → ℕ → ℕ → ℕ → Said
+  -- expect and got
+  wrongParity : ℕ → ℕ → Said
   -- the size there is no room for
   noRoom : ℕ → Said
 
@@ -31,11 +33,12 @@ pub record Event : Type 0 where
 
 abbrev pub frameSaid : Kind → List ℕ → Said
 frameSaid (Ubx class id n) body = ubxFrame class id body
-frameSaid (Rtcm n) body = rtcmFrame body
+frameSaid (Rtcm n parity) body = rtcmFrame body
 frameSaid (Sentence i) body = sentence body
 
 abbrev pub taleSaid : Tale → Said
 taleSaid (WrongSum class id n expect got) = wrongSum class id n expect got
+taleSaid (WrongParity expect got) = wrongParity expect got
 taleSaid (NoRoom drain size) = noRoom size
 
 -- ---- what stands at one position, where W is the stream from there on
@@ -88,6 +91,6 @@ scan mode max stream = scanFrom (scanMove mode max) 0 stream
 
 -- of modes one and two; mode three has no such scan, and no law speaks of one
 abbrev pub HasScan : Mode → Type 0
-HasScan One = Unit {0}
-HasScan Two = Unit {0}
-HasScan Three = ⊥
+HasScan (One parity) = Unit {0}
+HasScan (Two parity) = Unit {0}
+HasScan (Three parity) = ⊥

@@ -1,6 +1,7 @@
--- Mode two's weak spot: a stray D3 takes the UBX frame behind it into an RTCM frame. A D3 just before a frame reads B5 62 as the
+-- Mode two's weak spot without parity: a stray D3 takes the UBX frame behind it into an RTCM frame. A D3 just before a frame reads B5 62 as the
 -- length 354 (the low 10 bits), so it takes 357 bytes.
 use mathlib.Core.Path.{_≡_}
+use mathlib.Core.Bool.{false}
 use mathlib.Core.List.{List, _∷_, _++_, List·Memᴰ as Among}
 use Prim.Native.Nat.{ℕ, _+_, _≤_, _<_}
 use lib.ListN.{length, drop, replicate}
@@ -22,5 +23,5 @@ threeBytes = 0xD3 ∷ 0x00 ∷ 0x01 ∷ frameT
 abbrev pub NoSmallerLoss : Type 0
 NoSmallerLoss =
     (max : ℕ) (stream : List ℕ) (p class id : ℕ) (payload : List ℕ) → GoodFrame max (drop p stream) class id payload
-    → (f : Event) → Among f (scan Two max stream .answers) → (body : List ℕ) → f .said ≡ rtcmFrame body → f .at < p → p < f .at + length body
+    → (f : Event) → Among f (scan (Two false) max stream .answers) → (body : List ℕ) → f .said ≡ rtcmFrame body → f .at < p → p < f .at + length body
     → (11 ≤ length stream) × (f .at + 1 ≡ p → 357 ≤ length stream)

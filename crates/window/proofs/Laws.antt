@@ -37,7 +37,7 @@ pub drop-right : (a b : List ℕ) (k : ℕ) → length a ≤ k → drop (k - len
 drop-right a b k h = sym (drop-append-add a b (k - length a)) ∙ ap (λ (i : ℕ). drop i (a ++ b)) (add-sub-of-le h)
 
 -- the first bytes, and all from k on, as the first list's and the second's
-take-two : (k : ℕ) (a b : List ℕ) → take (min k (length a)) a ++ take (k - min k (length a)) b ≡ take k (a ++ b)
+pub take-two : (k : ℕ) (a b : List ℕ) → take (min k (length a)) a ++ take (k - min k (length a)) b ≡ take k (a ++ b)
 take-two zero a b = rw zero-min
 take-two (suc k) [] b = rw (min-zero, sub-zero)
 take-two (suc k) (x ∷ a) b = rw (suc-min-suc, suc-sub-suc) (ap (λ (l : List ℕ). x ∷ l) (take-two k a b))

@@ -5,7 +5,8 @@ ghost use mathlib.Core.List.{_++_};
 ghost use Prim.Native.Nat.{_+_, _-_, _≤_, _<_, min};
 ghost use lib.ListN.{length, getD, take, drop};
 ghost use Rattle.sum.specs.Sum.{sumOf};
-ghost use Rattle.window.specs.Sync.{isSync, firstSync, first};
+ghost use Rattle.parity.specs.Parity.{parityOf};
+ghost use Rattle.window.specs.Sync.{hasParity, isSync, firstSync, first};
 ghost use Rattle.window.specs.EndMark.{endMark};
 ghost use Rattle.window.specs.Search.{is, anyOf, told, PastNone, StopsBy};
 use sum::Sums;
@@ -22,11 +23,12 @@ const NMEA_END_CHAR_1: u8 = 0x0D;
 
 const NMEA_END_CHAR_2: u8 = 0x0A;
 
-// One: UBX. Two: UBX and RTCM. Three: UBX, RTCM and NMEA.
+// One: UBX. Two: UBX and RTCM. Three: UBX, RTCM and NMEA. With each the setting: whether an RTCM frame is read with its parity;
+// without, as the crate reads it, it ends before.
 pub enum Mode {
-    One,
-    Two,
-    Three,
+    One(bool),
+    Two(bool),
+    Three(bool),
 }
 
 // Where a search found what it looks for.
@@ -39,6 +41,17 @@ pub enum Found {
 enum Needle {
     Sync(Mode),
     Cr,
+}
+
+// Whether RTCM frames are read with parity.
+pub fn has_parity(mode: Mode) -> bool
+    ensures { λ r. ⌜ r ≡ hasParity mode ⌝ }
+{
+    match mode {
+        Mode::One(parity) => parity,
+        Mode::Two(parity) => parity,
+        Mode::Three(parity) => parity,
+    }
 }
 
 // The smaller of two numbers.
@@ -56,9 +69,9 @@ pub fn is_sync(mode: Mode, x: u8) -> bool
         return true;
     }
     match mode {
-        Mode::One => false,
-        Mode::Two => x == RTCM_SYNC_CHAR,
-        Mode::Three => x == RTCM_SYNC_CHAR || x == NMEA_SYNC_CHAR,
+        Mode::One(_) => false,
+        Mode::Two(_) => x == RTCM_SYNC_CHAR,
+        Mode::Three(_) => x == RTCM_SYNC_CHAR || x == NMEA_SYNC_CHAR,
     }
 }
 
@@ -91,9 +104,9 @@ fn any_sync(mode: Mode, s: &[u8]) -> bool
         return true;
     }
     match mode {
-        Mode::One => false,
-        Mode::Two => has(s, RTCM_SYNC_CHAR),
-        Mode::Three => has(s, RTCM_SYNC_CHAR) || has(s, NMEA_SYNC_CHAR),
+        Mode::One(_) => false,
+        Mode::Two(_) => has(s, RTCM_SYNC_CHAR),
+        Mode::Three(_) => has(s, RTCM_SYNC_CHAR) || has(s, NMEA_SYNC_CHAR),
     }
 }
 
@@ -219,6 +232,17 @@ pub fn sum_of(a: &[u8], b: &[u8], from: usize, to: usize) -> Sums
     let start = from - f;
     let end = to - t;
     sum::update(first, &b[start..end])
+}
+
+// The parity of the window's bytes up to, not including, `to`, in the same manner.
+pub fn parity_of(a: &[u8], b: &[u8], to: usize) -> u32
+    requires { ⌜ to ≤ length (now a) + length (now b) ⌝ }
+    ensures { λ r. ⌜ r ≡ parityOf (take to (now (a .entry) ++ now (b .entry))) ⌝ }
+{
+    let t = least(to, a.len());
+    let first = parity::update(parity::new(), &a[0..t]);
+    let end = to - t;
+    parity::update(first, &b[0..end])
 }
 
 // The window's first CR that is followed at once by LF.

@@ -1,12 +1,14 @@
 -- A refused call hands the state back, and a state that was read and is written back leaves its words as they were.
-use mathlib.Core.Path.{_≡_, refl, ap}
+use mathlib.Core.Path.{_≡_, refl, sym, ap}
 use mathlib.Core.Bool.{Bool, true, false}
 use mathlib.Core.List.{List, [], _∷_}
 use Prim.Native.Nat.{ℕ, zero, suc, _≤_}
 use native.Mathlib.Omega.{arith}
 use lib.ListN.{getD, set}
 use lib.Dec.{ltb, eqb}
-use borrow.Author.Tests.{ltb-false, eqb-true, eqb-false}
+use borrow.Author.Tests.{ltb-false, eqb-true, eqb-false, not-false}
+use Rattle.window.specs.declared.Mode.{Mode}
+use Rattle.window.specs.Pick.{pick}
 use Rattle.window.proofs.Pick.{by-pick}
 use Rattle.state.specs.declared.State.{State}
 use Rattle.state.proofs.Granted.{none-of}
@@ -20,16 +22,22 @@ set-same [] (suc i) = refl
 set-same (x ∷ l) zero = refl
 set-same (x ∷ l) (suc i) = ap (λ (r : List ℕ). x ∷ r) (set-same l i)
 
+-- two choices by one test
+both : (P : Mode → Bool → Type 0) (t : Bool) {x y : Mode} {b c : Bool} → (t ≡ true → P x b) → P y c → P (pick t x y) (pick t b c)
+unfolding pick
+both P true f g = f refl
+both P false f g = g
+
+-- each of the six numbers is its mode's, and no other is one
 mode-back : (n : ℕ) → noMode n ≡ false → modeNo (modeBy n) ≡ n
 mode-back n =
-    by-pick (λ t. t ≡ false → modeNo (modeBy n) ≡ n)
-    (λ _ e. let z : _≡_ {A = Bool} true false = e in absurd (Bool-apart z))
-    (λ zero e. by-pick (λ m. modeNo m ≡ n) (λ t. let h = eqb-true n 1 t in omega arith)
-    (λ one. by-pick (λ m. modeNo m ≡ n) (λ t. let h = eqb-true n 2 t in omega arith)
-    (λ two. let a = eqb-false n 0 zero in let b = eqb-false n 1 one in let c = eqb-false n 2 two in let d = ltb-false 3 n e in omega arith)))
-  where
-    Bool-apart : _≡_ {A = Bool} true false → ⊥
-    Bool-apart z = let k : _≡_ {A = ℕ} 0 1 = cc in omega arith
+    let P : Mode → Bool → Type 0 = λ m b. b ≡ false → modeNo m ≡ n in
+    both P (eqb n 1) (λ t _. sym (eqb-true n 1 t))
+    (both P (eqb n 2) (λ t _. sym (eqb-true n 2 t))
+    (both P (eqb n 3) (λ t _. sym (eqb-true n 3 t))
+    (both P (eqb n 17) (λ t _. sym (eqb-true n 17 t))
+    (both P (eqb n 18) (λ t _. sym (eqb-true n 18 t))
+    (λ e. sym (eqb-true n 19 (not-false _ e)))))))
 
 open-back : (n : ℕ) → n ≤ 1 → openNo (eqb n 1) ≡ n
 open-back n h = go (eqb n 1) refl

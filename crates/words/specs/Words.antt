@@ -1,6 +1,6 @@
 -- The words in which a state and an answer cross to C: include/orgnevis.h says the same to a C programmer.
 use Prim.Native.Nat.{ℕ}
-use mathlib.Core.Bool.{Bool, true, false}
+use mathlib.Core.Bool.{Bool, true, false, not}
 use mathlib.Core.List.{List, [], _∷_}
 use lib.ListN.{getD, replicate}
 use lib.Seq.{sets}
@@ -10,17 +10,21 @@ use Rattle.window.specs.Pick.{pick}
 use Rattle.state.specs.declared.State.{State}
 use Rattle.state.specs.Refusals.{anyOf, refusalNo, leaveNo}
 use Rattle.taking.specs.declared.Place.{Place}
-use Rattle.framer.specs.declared.Answer.{Answer, the-variants.{UbxFrame, RtcmFrame, Sentence, WrongSum, NoRoom, NeedMore, Refused}}
+use Rattle.framer.specs.declared.Answer.{Answer, the-variants.{UbxFrame, RtcmFrame, Sentence, WrongSum, NoRoom, NeedMore, Refused, WrongParity}}
 use Rattle.framer.specs.declared.Closed.{Closed}
 use Rattle.framer.specs.Answers.{sideNo}
 use Rattle.words.specs.declared.Read.{Read, the-variants.{Is, NoState}}
 
 -- ---- a state: nine words, in the order of the header; those after them are left as they are
 
+-- with parity 16 is added
 abbrev pub modeNo : Mode → ℕ
-modeNo One = 1
-modeNo Two = 2
-modeNo Three = 3
+modeNo (One false) = 1
+modeNo (Two false) = 2
+modeNo (Three false) = 3
+modeNo (One true) = 17
+modeNo (Two true) = 18
+modeNo (Three true) = 19
 
 abbrev pub openNo : Bool → ℕ
 openNo true = 1
@@ -45,10 +49,22 @@ closedWords kept words = sets words 3 (kept ∷ 0 ∷ 0 ∷ 0 ∷ 0 ∷ 0 ∷ []
 
 -- a mode's number, and words that no state has: another mode, MAX over 65,535, open not 0 or 1
 abbrev pub modeBy : ℕ → Mode
-modeBy n = pick (eqb n 1) One (pick (eqb n 2) Two Three)
+modeBy n =
+    pick (eqb n 1) (One false)
+    (pick (eqb n 2) (Two false)
+    (pick (eqb n 3) (Three false)
+    (pick (eqb n 17) (One true)
+    (pick (eqb n 18) (Two true)
+    (Three true)))))
 
 abbrev pub noMode : ℕ → Bool
-noMode n = pick (eqb n 0) true (ltb 3 n)
+noMode n =
+    pick (eqb n 1) false
+    (pick (eqb n 2) false
+    (pick (eqb n 3) false
+    (pick (eqb n 17) false
+    (pick (eqb n 18) false
+    (not (eqb n 19))))))
 
 abbrev pub noState : List ℕ → Bool
 noState words = anyOf (noMode (getD words 0 0) ∷ ltb 65535 (getD words 1 0) ∷ ltb 1 (getD words 6 0) ∷ [])
@@ -89,6 +105,7 @@ answerWords (WrongSum class id n p expect got) = wrongWords p class id n expect 
 answerWords (NoRoom p size) = plainWords 5 p size 0
 answerWords NeedMore = plainWords 6 0 0 0
 answerWords (Refused r) = plainWords 7 0 (refusalNo r) 0
+answerWords (WrongParity p expect got) = plainWords 8 p expect got
 
 -- ---- a close's report: sixteen words
 

@@ -21,9 +21,9 @@ fn mode_no(mode: Mode) -> u64
     ensures { λ r. ⌜ r ≡ modeNo mode ⌝ }
 {
     match mode {
-        Mode::One => 1,
-        Mode::Two => 2,
-        Mode::Three => 3,
+        Mode::One(parity) => if parity { 17 } else { 1 },
+        Mode::Two(parity) => if parity { 18 } else { 2 },
+        Mode::Three(parity) => if parity { 19 } else { 3 },
     }
 }
 
@@ -32,22 +32,43 @@ pub fn mode_by(n: u64) -> Mode
     ensures { λ r. ⌜ r ≡ modeBy n ⌝ }
 {
     if n == 1 {
-        return Mode::One;
+        return Mode::One(false);
     }
     if n == 2 {
-        return Mode::Two;
+        return Mode::Two(false);
     }
-    Mode::Three
+    if n == 3 {
+        return Mode::Three(false);
+    }
+    if n == 17 {
+        return Mode::One(true);
+    }
+    if n == 18 {
+        return Mode::Two(true);
+    }
+    Mode::Three(true)
 }
 
 // Whether a number is no mode's.
 pub fn no_mode(n: u64) -> bool
     ensures { λ r. ⌜ r ≡ noMode n ⌝ }
 {
-    if n == 0 {
-        return true;
+    if n == 1 {
+        return false;
     }
-    3 < n
+    if n == 2 {
+        return false;
+    }
+    if n == 3 {
+        return false;
+    }
+    if n == 17 {
+        return false;
+    }
+    if n == 18 {
+        return false;
+    }
+    n != 19
 }
 
 fn open_no(open: bool) -> u64
@@ -219,6 +240,12 @@ fn word8(x: u8) -> u64
     x as u64
 }
 
+fn word32(x: u32) -> u64
+    ensures { λ r. ⌜ r ≡ x ⌝ }
+{
+    x as u64
+}
+
 pub fn word(x: usize) -> u64
     ensures { λ r. ⌜ r ≡ x ⌝ }
 {
@@ -249,6 +276,13 @@ pub fn write_answer(answer: Answer, out: &mut [u64; 8])
         Answer::NoRoom { at, size } => write_plain(out, 5, word(at), word(size), 0),
         Answer::NeedMore => write_plain(out, 6, 0, 0, 0),
         Answer::Refused(refusal) => write_plain(out, 7, 0, refusal_no(refusal), 0),
+        Answer::WrongParity { at, expect, got } => write_plain(
+            out,
+            8,
+            word(at),
+            word32(expect),
+            word32(got),
+        ),
     }
 }
 

@@ -3,6 +3,7 @@
 
 use crate::random::Random;
 use crate::words::*;
+use ublox_framing::parity::crc24q;
 
 /// The sync bytes and their friends.
 pub const FRIENDS: [u8; 12] =
@@ -42,6 +43,23 @@ pub fn put_ubx_head(to: &mut Vec<u8>, class: u8, id: u8, n: u16) {
 /// Puts an RTCM head for n bytes, with the six reserved bits as asked.
 pub fn put_rtcm_head(to: &mut Vec<u8>, n: usize, reserved: u8) {
     to.extend_from_slice(&[D3, (n >> 8) as u8 & 3 | reserved << 2, n as u8]);
+}
+
+/// Puts the parity of the RTCM frame that begins at `from` behind it; `off` is added to the three bytes.
+pub fn put_parity(to: &mut Vec<u8>, from: usize, off: [u8; 3]) {
+    let [_, parity @ ..] = crc24q(to[from..].iter().copied()).to_be_bytes();
+    parity.iter().zip(off).for_each(|(byte, off)| to.push(byte.wrapping_add(off)));
+}
+
+/// What is added to the three bytes of a parity: mostly nothing, else one of them is changed, or any.
+pub fn parity_off(random: &mut Random) -> [u8; 3] {
+    let mut off = [0; 3];
+    match random.below(8) {
+        0 => off = [random.byte(), random.byte(), random.byte()],
+        at @ 1..=3 => off[at - 1] = random.pick(&[1, 0xFF, 0x80, 0x55]),
+        _ => {}
+    }
+    off
 }
 
 /// Bytes for a payload: noise, friends, or one value.
@@ -105,6 +123,32 @@ fn put_any_rtcm(random: &mut Random, to: &mut Vec<u8>, setting: &Setting, most: 
     put_payload(random, to, if whole { n.min(most) } else { n.min(most) / 2 });
 }
 
+/// An RTCM frame with its parity: right or wrong, whole or cut, with a UBX frame or D3 in its payload.
+fn put_rtcm_with_parity(random: &mut Random, to: &mut Vec<u8>, setting: &Setting, most: usize) {
+    let n = match random.below(8) {
+        0 => 0,
+        1 => random.near(setting.c.saturating_sub(6), 2, 1023),
+        2 => random.near(setting.c.saturating_sub(3), 2, 1023),
+        3 => random.edge(0, 1023),
+        _ => random.below(30),
+    };
+    let n = n.min(most);
+    let from = to.len();
+    put_rtcm_head(to, n, if random.once_in(2) { 0 } else { random.byte() & 63 });
+    put_payload(random, to, n);
+    if n >= 8 && random.once_in(3) {
+        let at = from + 3 + random.below(n - 7);
+        to[at..at + 8].copy_from_slice(&T);
+    } else if n > 0 && random.once_in(3) {
+        to[from + 3 + random.below(n)] = random.pick(&[D3, B5]);
+    }
+    let off = parity_off(random);
+    put_parity(to, from, off);
+    if random.once_in(8) {
+        to.truncate(to.len() - random.below(6).min(n + 5));
+    }
+}
+
 fn put_any_sentence(random: &mut Random, to: &mut Vec<u8>, most: usize) {
     let length = match random.below(4) {
         0 => random.between(3, 12),
@@ -137,6 +181,7 @@ fn put_piece(random: &mut Random, to: &mut Vec<u8>, setting: &Setting, most: usi
             let n = usize::from(setting.max) + 1 + random.below(3);
             put_ubx_head(to, 1, 2, n.min(65_535) as u16);
         }
+        5 | 6 if has_parity(setting.mode) => put_rtcm_with_parity(random, to, setting, most),
         5 | 6 => put_any_rtcm(random, to, setting, most),
         7 | 8 => put_any_sentence(random, to, most),
         _ => put_any_ubx(random, to, setting, most),
@@ -154,6 +199,9 @@ pub fn stream(random: &mut Random, setting: &Setting, length: usize) -> Vec<u8> 
         }
         _ => {
             while bytes.len() < length {
+                if has_parity(setting.mode) && random.once_in(4) {
+                    put_rtcm_with_parity(random, &mut bytes, setting, length.max(16));
+                }
                 put_piece(random, &mut bytes, setting, length.max(16));
             }
         }

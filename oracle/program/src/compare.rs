@@ -75,6 +75,7 @@ fn report(run: &Run, families: &[Box<dyn Family>], options: &Options, lived: u64
         Some(file) => say!("  {file}\n"),
         None => families.iter().for_each(|family| say!("  {}\n", family.progress())),
     }
+    say!("{}\n", run.counts.parity());
     say!("the Rust kept alive and made anew: {} calls, no difference\n", grouped(lived));
     let a_second = (calls as f64 / seconds) as u64;
     say!("seed {}, {seconds:.0} s, {} calls a second\n", options.seed, grouped(a_second));

@@ -6,10 +6,12 @@ use std::fmt;
 #[derive(Clone, Default)]
 pub struct Counts {
     pub calls: [u64; 5],
-    pub answers: [u64; 8],
+    pub answers: [u64; ANSWERS.len()],
     pub refusals: [u64; 9],
-    /// Steps that were not refused, by mode.
-    pub modes: [u64; 4],
+    /// Steps that were not refused, by mode as in `MODES`.
+    pub modes: [u64; MODES.len()],
+    /// RTCM frames with parity.
+    pub with_parity: u64,
     /// Frames in the chunk, in the carry, brought to the carry behind its live bytes, and brought
     /// there after a move.
     pub places: [u64; 4],
@@ -32,7 +34,17 @@ impl Counts {
         add_each(&mut self.answers, &more.answers);
         add_each(&mut self.refusals, &more.refusals);
         add_each(&mut self.modes, &more.modes);
+        self.with_parity += more.with_parity;
         add_each(&mut self.places, &more.places);
+    }
+
+    /// What was done with parity, in a line.
+    pub fn parity(&self) -> String {
+        let in_modes = self.modes.iter().zip(MODES).filter(|(_, mode)| has_parity(*mode));
+        let steps: u64 = in_modes.map(|(count, _)| count).sum();
+        let [steps, right, wrong] =
+            [steps, self.with_parity, self.answers[WRONG_PARITY as usize]].map(grouped);
+        format!("with parity: {steps} steps, {right} RTCM frames, {wrong} wrong parities")
     }
 
     /// Counts a call by the state before it, the state after it and its out words.
@@ -44,7 +56,11 @@ impl Counts {
         }
         self.answers[out[0] as usize] += 1;
         if out[0] != REFUSAL {
-            self.modes[before[MODE] as usize] += 1;
+            let mode = MODES.iter().position(|mode| *mode == before[MODE]);
+            self.modes[mode.expect("a mode")] += 1;
+        }
+        if out[0] == RTCM_FRAME {
+            self.with_parity += u64::from(has_parity(before[MODE]));
         }
         if (UBX_FRAME..=SENTENCE).contains(&out[0]) {
             self.places[place_kind(before, after, out)] += 1;
@@ -83,8 +99,11 @@ impl fmt::Display for Counts {
         };
         table(to, "answers of step by kind", numbered(&ANSWERS, &self.answers))?;
         table(to, "frames by place", PLACES.iter().copied().zip(self.places))?;
-        let modes = (1..4).map(|mode| (format!("mode {mode}"), self.modes[mode]));
-        table(to, "steps by mode", modes)?;
+        let name = |mode| match has_parity(mode) {
+            true => format!("mode {mode}, {} with parity", without_parity(mode)),
+            false => format!("mode {mode}"),
+        };
+        table(to, "steps by mode", MODES.map(name).into_iter().zip(self.modes))?;
         table(to, "refusals by number", numbered(&REFUSALS, &self.refusals))
     }
 }

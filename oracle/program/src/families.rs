@@ -27,18 +27,62 @@ pub trait Family {
 
 /// Every family, in the order of a round.
 pub fn all() -> Vec<Box<dyn Family>> {
+    let mut families = without_parity();
+    families.extend(with_parity());
+    families
+}
+
+/// The families of modes 1 to 3.
+pub fn without_parity() -> Vec<Box<dyn Family>> {
     vec![
         Box::new(forged::Huge::default()),
         Box::new(strings::Strings::of_bytes()),
         Box::new(grids::takes()),
-        Box::new(forged::Forged::default()),
-        Box::new(states::States::default()),
-        Box::new(sessions::Sessions::default()),
+        Box::new(forged::Forged::new(Modes::Plain)),
+        Box::new(states::States::new(Modes::Plain)),
+        Box::new(sessions::Sessions::new(Modes::Plain)),
         Box::new(grids::sentences()),
         Box::new(strings::Strings::of_tokens()),
-        Box::new(edges::Edges::default()),
-        Box::new(runs::Runs::default()),
+        Box::new(edges::Edges::new(Modes::Plain)),
+        Box::new(runs::Runs::new(Modes::Plain)),
     ]
+}
+
+/// The families of modes 17 to 19.
+pub fn with_parity() -> Vec<Box<dyn Family>> {
+    vec![
+        Box::new(grids::parities()),
+        Box::new(strings::Strings::of_tokens_with_parity()),
+        Box::new(forged::Forged::new(Modes::Parity)),
+        Box::new(states::States::new(Modes::Parity)),
+        Box::new(sessions::Sessions::new(Modes::Parity)),
+        Box::new(edges::Edges::new(Modes::Parity)),
+        Box::new(runs::Runs::new(Modes::Parity)),
+    ]
+}
+
+/// Which modes a family draws.
+#[derive(Clone, Copy, PartialEq)]
+enum Modes {
+    Plain,
+    Parity,
+}
+
+impl Modes {
+    fn any(self, random: &mut Random) -> u64 {
+        match self {
+            Modes::Plain => random.between(1, 3) as u64,
+            Modes::Parity => random.pick(&[17, 18, 18, 18, 19, 19]),
+        }
+    }
+
+    /// How a family says in its progress which modes it draws.
+    fn name(self) -> &'static str {
+        match self {
+            Modes::Plain => "",
+            Modes::Parity => ", with parity",
+        }
+    }
 }
 
 /// Goes round the families until the run stops.
@@ -86,9 +130,11 @@ fn size(random: &mut Random) -> Size {
     }
 }
 
-/// A mode, a payload limit and a carry length: C 0 to 130, around MAX + 7, around 1,026, to 16,384.
-fn setting(random: &mut Random, size: Size) -> Setting {
-    let mode = random.between(1, 3) as u64;
+/// A mode, a payload limit and a carry length: C 0 to 130, around MAX + 7, around 1,026 (with parity
+/// 1,029), to 16,384.
+fn setting(random: &mut Random, size: Size, modes: Modes) -> Setting {
+    let mode = modes.any(random);
+    let rtcm = if modes == Modes::Parity { 1029 } else { 1026 };
     let limit = LIMIT as usize;
     match size {
         Size::Tiny => Setting { mode, max: limit_up_to(random, 32), c: random.edge(0, 40) },
@@ -96,7 +142,7 @@ fn setting(random: &mut Random, size: Size) -> Setting {
         Size::Fitting => {
             let max = limit_up_to(random, 1027);
             let c = match random.below(3) {
-                0 => random.near(1026, 2, limit),
+                0 => random.near(rtcm, 2, limit),
                 _ => random.near(usize::from(max) + 7, 2, limit),
             };
             Setting { mode, max, c }

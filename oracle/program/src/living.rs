@@ -4,12 +4,18 @@
 use crate::bytes::{self, Setting};
 use crate::random::Random;
 use ublox_framing::numbers::{self, Said, Sides};
+use ublox_framing::parity::crc24q;
 use ublox_framing::Numbers;
 
 type Trace = Vec<(Option<Said>, Numbers)>;
 
-/// How many calls were the same; an error names the setting of one that was not.
+/// How many calls were the same; an error names the setting of one that was not. Before that, the
+/// parity of the corrected Rust on its known answer.
 pub fn check(seed: u64, sessions: usize) -> Result<u64, String> {
+    let known = crc24q(b"123456789".iter().copied());
+    if known != 0xCD_E703 {
+        return Err(format!("the CRC-24Q of 123456789 is CDE703, and not {known:06X}"));
+    }
     let mut random = Random::new(seed);
     let mut calls = 0;
     for _ in 0..sessions {
@@ -56,7 +62,8 @@ fn rebuild(setting: &Setting, carry: &mut [u8], chunks: &[(&[u8], usize)]) -> (T
         let mut at = numbers::open(setting.mode, carry, live, chunk);
         trace.push((None, at));
         for _ in 0..*steps {
-            let (said, after) = numbers::step(setting.mode, setting.max, sides(carry, chunk, &at));
+            let (said, after) =
+                numbers::step(setting.mode, false, setting.max, sides(carry, chunk, &at));
             trace.push((Some(said), after));
             at = after;
         }

@@ -1,6 +1,6 @@
-//! A third reading of 01, written from its text and not from the Rust. Each rule that a porter may get
-//! wrong is a method of `Rules`; what 01 says is the method's default, and a wrong version is a set of
-//! rules with one method of its own.
+//! A third reading of 01 and of 02's parity, written from their text and not from the Rust. Each rule
+//! that a porter may get wrong is a method of `Rules`; what is written is the method's default, and a
+//! wrong version is a set of rules with one method of its own.
 
 use crate::framer::{Framer, Lent};
 use crate::refusals;
@@ -55,6 +55,51 @@ pub trait Rules {
     fn rtcm_length(&self, high: u8, low: u8) -> usize {
         usize::from(high & 3) * 256 + usize::from(low)
     }
+    /// "The crate's reading stays as a setting chosen at start"
+    fn has_parity(&self, mode: u64) -> bool {
+        has_parity(mode)
+    }
+    /// "a frame is n + 6 bytes"; the hand-out test is made with so many.
+    fn rtcm_tested(&self, n: usize, parity: bool) -> usize {
+        n + if parity { 6 } else { 3 }
+    }
+    fn rtcm_taken(&self, n: usize, parity: bool) -> usize {
+        n + if parity { 6 } else { 3 }
+    }
+    /// "No room reports n + 6."
+    fn rtcm_no_room_size(&self, n: usize, parity: bool) -> usize {
+        n + if parity { 6 } else { 3 }
+    }
+    /// "CRC-24Q .. over the first n + 3"
+    fn parity_covers(&self, n: usize) -> Range<usize> {
+        0..n + 3
+    }
+    /// "(polynomial 0x1864CFB, start 0, no reflection)"
+    fn parity_divisor(&self) -> u64 {
+        0x186_4CFB
+    }
+    fn parity_start(&self) -> u64 {
+        0
+    }
+    fn parity_bits(&self, byte: u8) -> u8 {
+        byte
+    }
+    /// "the last three, big-endian"
+    fn received_parity(&self, bytes: [u8; 3]) -> u64 {
+        bytes.iter().fold(0, |word, byte| 256 * word + u64::from(*byte))
+    }
+    /// "Wrong parity is a new answer with both values": expect is the received, got the computed one.
+    fn parities_named(&self, received: u64, computed: u64) -> (u64, u64) {
+        (received, computed)
+    }
+    /// "and drains 1"
+    fn drained_at_wrong_parity(&self, _n: usize) -> usize {
+        1
+    }
+    /// The hand-out test comes before parity.
+    fn judges_parity_first(&self) -> bool {
+        false
+    }
     /// "w < 8, need more."
     fn least_sentence(&self) -> usize {
         8
@@ -102,7 +147,14 @@ pub trait Rules {
     }
     /// "and all other bytes stay"
     fn left_behind_close(&self, _carry: &mut [u8], _kept: usize) {}
+    /// "the mode and MAX asked for", also where a start is refused.
+    fn mode_word(&self, mode: u64, _refusal: u64) -> u64 {
+        mode
+    }
     /// The refusals.
+    fn refusal_of_start(&self, mode: u64, carry: u64) -> u64 {
+        refusals::of_start(mode, carry)
+    }
     fn refusal_of_open(&self, state: &State, carry: u64, chunk: u64) -> u64 {
         refusals::of_open(state, carry, chunk)
     }
@@ -148,6 +200,7 @@ impl Window<'_> {
 }
 
 fn is_sync(mode: u64, byte: u8) -> bool {
+    let mode = without_parity(mode);
     byte == B5 || (mode >= 2 && byte == D3) || (mode == 3 && byte == DOLLAR)
 }
 
@@ -157,6 +210,7 @@ enum Sight {
     Wait { drained: usize },
     Frame { kind: u64, class: u64, id: u64, drained: usize, taken: usize },
     WrongSum { head: [u64; 3], expect: u64, got: u64, drained: usize },
+    WrongParity { expect: u64, got: u64, drained: usize },
     NoRoom { size: usize, drained: usize },
 }
 
@@ -168,10 +222,10 @@ pub struct Model {
 
 impl Framer for Model {
     fn start(&mut self, state: &mut State, lent: &mut Lent, mode: u64, max: u16) -> u64 {
-        let refusal = refusals::of_start(mode, lent.carry_length);
+        let refusal = self.rules.refusal_of_start(mode, lent.carry_length);
         if refusal != NO_SUCH_MODE {
             state[..STATE_WORDS].fill(0);
-            state[MODE] = mode;
+            state[MODE] = self.rules.mode_word(mode, refusal);
             state[MAX] = u64::from(max);
             state[C] = if refusal == 0 { lent.carry_length } else { 0 };
         }
@@ -299,11 +353,48 @@ impl Model {
         if w < 3 {
             return NOTHING_YET;
         }
-        let taken = self.rules.rtcm_length(window.at(1), window.at(2)) + 3;
-        if !self.hands_out(state, window, 0, taken) {
-            return self.no_room(state, w, taken, 1);
+        let n = self.rules.rtcm_length(window.at(1), window.at(2));
+        let parity = self.rules.has_parity(state[MODE]);
+        let wrong = if parity { self.look_at_parity(window, n) } else { None };
+        if self.rules.judges_parity_first() && wrong.is_some() {
+            return wrong.unwrap_or(NOTHING_YET);
         }
-        Sight::Frame { kind: RTCM_FRAME, class: 0, id: 0, drained: 0, taken }
+        if !self.hands_out(state, window, 0, self.rules.rtcm_tested(n, parity)) {
+            return self.no_room(state, w, self.rules.rtcm_no_room_size(n, parity), 1);
+        }
+        let taken = self.rules.rtcm_taken(n, parity);
+        wrong.unwrap_or(Sight::Frame { kind: RTCM_FRAME, class: 0, id: 0, drained: 0, taken })
+    }
+
+    /// The wrong parity of a frame whose n + 6 bytes are there.
+    fn look_at_parity(&self, window: &Window, n: usize) -> Option<Sight> {
+        if window.len() < n + 6 {
+            return None;
+        }
+        let received = self.rules.received_parity([3, 4, 5].map(|i| window.at(n + i)));
+        let computed = self.remainder(window, self.rules.parity_covers(n));
+        if received == computed {
+            return None;
+        }
+        let (expect, got) = self.rules.parities_named(received, computed);
+        Some(Sight::WrongParity { expect, got, drained: self.rules.drained_at_wrong_parity(n) })
+    }
+
+    /// CRC-24Q as the division that it is: the bits of the bytes and 24 zeros behind them, by the
+    /// polynomial; the remainder is what is left of 24 bits.
+    fn remainder(&self, window: &Window, covered: Range<usize>) -> u64 {
+        let divisor = self.rules.parity_divisor();
+        let divided = covered.map(|i| self.rules.parity_bits(window.at(i)));
+        let mut left = self.rules.parity_start();
+        for byte in divided.chain([0; 3]) {
+            for turn in (0..8).rev() {
+                left = 2 * left + u64::from(byte >> turn & 1);
+                if left >= 1 << 24 {
+                    left ^= divisor;
+                }
+            }
+        }
+        left
     }
 
     /// Rule 4.
@@ -355,7 +446,7 @@ impl Model {
         let drained = match sight {
             Sight::Pass { drained } | Sight::Wait { drained } => drained,
             Sight::WrongSum { drained, .. } | Sight::NoRoom { drained, .. } => drained,
-            Sight::Frame { drained, .. } => drained,
+            Sight::WrongParity { drained, .. } | Sight::Frame { drained, .. } => drained,
         };
         drain(state, drained);
         out[1] = self.rules.position(used_at_sync, drained);
@@ -367,6 +458,9 @@ impl Model {
             Sight::WrongSum { head, expect, got, .. } => {
                 (out[0], out[2], out[3]) = (WRONG_SUM, expect, got);
                 out[4..7].copy_from_slice(&head);
+            }
+            Sight::WrongParity { expect, got, .. } => {
+                (out[0], out[2], out[3]) = (WRONG_PARITY, expect, got);
             }
             Sight::NoRoom { size, .. } => (out[0], out[2]) = (NO_ROOM, size as u64),
             Sight::Frame { kind, class, id, taken, .. } => {

@@ -5,7 +5,7 @@ use crate::words::*;
 
 /// Start: 8 for a mode that is none, else 1 for a carry that is too big, else 0.
 pub fn of_start(mode: u64, carry_length: u64) -> u64 {
-    if !(1..=3).contains(&mode) {
+    if !is_mode(mode) {
         NO_SUCH_MODE
     } else if carry_length > LIMIT {
         CARRY_TOO_BIG
@@ -57,7 +57,7 @@ pub fn of_view(carry_length: u64, chunk_length: u64, side: u64, start: u64, leng
 /// Refusal 2, clause by clause; w is asked for only where live and chunk length are not passed.
 pub fn is_bad(state: &State, carry_length: u64) -> bool {
     let [mode, max, c, live, off, used, open, chunk_length, part_used] = first_nine(state);
-    if !(1..=3).contains(&mode) || max > 65_535 || open > 1 {
+    if !is_mode(mode) || max > 65_535 || open > 1 {
         return true;
     }
     if carry_length != c || c > LIMIT || live > c || off > live {
@@ -71,6 +71,11 @@ pub fn is_bad(state: &State, carry_length: u64) -> bool {
         return true;
     }
     open == 0 && (off != 0 || used != 0 || chunk_length != 0)
+}
+
+/// One, two or three; 16 more for the same with parity.
+fn is_mode(mode: u64) -> bool {
+    matches!(mode, 1..=3 | 17..=19)
 }
 
 fn first_nine(state: &State) -> [u64; 9] {

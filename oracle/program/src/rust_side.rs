@@ -1,4 +1,5 @@
-//! The first side: the Rust, behind the refusals that it has none of.
+//! The first side: the Rust, behind the refusals that it has none of. In a mode with parity it is the Rust
+//! corrected as 02 says; opening and closing are the Rust's own in every mode.
 
 use crate::framer::{Framer, Lent};
 use crate::refusals;
@@ -25,7 +26,7 @@ impl Framer for RustSide {
             return refusal;
         }
         let live = state[LIVE] as usize;
-        let after = numbers::open(state[MODE], lent.carry, live, lent.chunk);
+        let after = numbers::open(without_parity(state[MODE]), lent.carry, live, lent.chunk);
         state[OPEN] = 1;
         state[CHUNK_LENGTH] = lent.chunk_length;
         state[USED] = (live + lent.chunk.len() - after.window) as u64;
@@ -81,8 +82,8 @@ fn put_numbers(state: &mut State, numbers: &Numbers) {
 /// The Rust's `next`, with `used` and the position from the bytes that its window lost.
 fn step_granted(state: &mut State, lent: &mut Lent, out: &mut [u64]) {
     let before = *state;
-    let max = state[MAX] as u16;
-    let (said, after) = numbers::step(state[MODE], max, sides(state, lent));
+    let (mode, parity) = (without_parity(state[MODE]), has_parity(state[MODE]));
+    let (said, after) = numbers::step(mode, parity, state[MAX] as u16, sides(state, lent));
     let w = (before[LIVE] - before[OFF]) + (before[CHUNK_LENGTH] - before[PART_USED]);
     let gone = w - after.window as u64;
     state[USED] += gone;
@@ -102,6 +103,9 @@ fn step_granted(state: &mut State, lent: &mut Lent, out: &mut [u64]) {
             let head = |i: u64| u64::from(byte_of_window(&before, lent, gone - 2 + i));
             let n = head(4) + 256 * head(5);
             [WRONG_SUM, sync_byte(2), expect.into(), got.into(), head(2), head(3), n, 0]
+        }
+        Said::WrongParity { expect, got } => {
+            [WRONG_PARITY, sync_byte(1), expect as u64, got as u64, 0, 0, 0, 0]
         }
         Said::NoRoom(size) => {
             // The last byte drained is 62 behind B5, or the one sync byte.

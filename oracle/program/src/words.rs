@@ -15,6 +15,20 @@ pub const PART_USED: usize = 8;
 /// The words of a state that have a meaning; those behind them stay as they are.
 pub const STATE_WORDS: usize = 9;
 
+/// The modes' numbers: one, two and three, and the same with parity.
+pub const PARITY: u64 = 16;
+pub const MODES: [u64; 6] = [1, 2, 3, 17, 18, 19];
+
+/// Whether a mode's number says parity.
+pub fn has_parity(mode: u64) -> bool {
+    mode >= PARITY
+}
+
+/// The mode's number without parity.
+pub fn without_parity(mode: u64) -> u64 {
+    mode % PARITY
+}
+
 /// The answers' numbers.
 pub const UBX_FRAME: u64 = 1;
 pub const RTCM_FRAME: u64 = 2;
@@ -23,8 +37,18 @@ pub const WRONG_SUM: u64 = 4;
 pub const NO_ROOM: u64 = 5;
 pub const NEED_MORE: u64 = 6;
 pub const REFUSAL: u64 = 7;
-pub const ANSWERS: [&str; 8] =
-    ["", "UBX frame", "RTCM frame", "sentence", "wrong sum", "no room", "need more", "refusal"];
+pub const WRONG_PARITY: u64 = 8;
+pub const ANSWERS: [&str; 9] = [
+    "",
+    "UBX frame",
+    "RTCM frame",
+    "sentence",
+    "wrong sum",
+    "no room",
+    "need more",
+    "refusal",
+    "wrong parity",
+];
 
 /// The sides' numbers.
 pub const CARRY_SIDE: u64 = 0;

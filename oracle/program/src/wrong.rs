@@ -1,5 +1,5 @@
-//! Wrong versions, each with one rule of 01 read wrong: the five errors that 01 says a porter is likely
-//! to make, and more. The comparison has to catch each.
+//! Wrong versions, each with one rule of 01 or of 02's parity read wrong: the five errors that 01 says a
+//! porter is likely to make, and more. The comparison has to catch each.
 
 use crate::model::{Rules, Window};
 use crate::refusals;
@@ -146,6 +146,63 @@ wrong_versions! {
                 return number;
             }
             refusals::of_step_or_close(&one_more, carry, chunk)
+        }
+    }
+    ParityOfLess: "takes the parity over n + 2 bytes" {
+        fn parity_covers(&self, n: usize) -> Range<usize> { 0..n + 2 }
+    }
+    ParityOfBody: "takes the parity over the n bytes behind the head" {
+        fn parity_covers(&self, n: usize) -> Range<usize> { 3..n + 3 }
+    }
+    ParityOfAll: "takes the parity over its own bytes too" {
+        fn parity_covers(&self, n: usize) -> Range<usize> { 0..n + 6 }
+    }
+    ParityLittleEndian: "reads the parity little-endian" {
+        fn received_parity(&self, [low, middle, high]: [u8; 3]) -> u64 {
+            u64::from(low) + 256 * u64::from(middle) + 65_536 * u64::from(high)
+        }
+    }
+    ParityStart: "starts the CRC at B704CE" {
+        fn parity_start(&self) -> u64 { 0xB7_04CE }
+    }
+    ParityReflected: "takes the bits of each byte from the lowest on" {
+        fn parity_bits(&self, byte: u8) -> u8 { byte.reverse_bits() }
+    }
+    ParityDivisor: "divides by 1800063, another CRC of 24 bits" {
+        fn parity_divisor(&self) -> u64 { 0x180_0063 }
+    }
+    ParityDrainsHead: "drains 3 at a wrong parity" {
+        fn drained_at_wrong_parity(&self, _n: usize) -> usize { 3 }
+    }
+    ParityDrainsFrame: "drains the whole frame, n + 6, at a wrong parity" {
+        fn drained_at_wrong_parity(&self, n: usize) -> usize { n + 6 }
+    }
+    SwapsParities: "swaps the two parities" {
+        fn parities_named(&self, received: u64, computed: u64) -> (u64, u64) { (computed, received) }
+    }
+    HandsNoParity: "hands out n + 3 bytes with parity" {
+        fn rtcm_taken(&self, n: usize, _parity: bool) -> usize { n + 3 }
+    }
+    SaysThree: "says no room with size n + 3 with parity" {
+        fn rtcm_no_room_size(&self, n: usize, _parity: bool) -> usize { n + 3 }
+    }
+    ParityFirst: "judges the parity before the hand-out test" {
+        fn judges_parity_first(&self) -> bool { true }
+    }
+    ParityAlways: "asks for parity in the setting without it" {
+        fn has_parity(&self, _mode: u64) -> bool { true }
+    }
+    ParityNever: "asks for no parity in mode three with it" {
+        fn has_parity(&self, mode: u64) -> bool { mode == 18 }
+    }
+    ForgetsParity: "says the mode without parity after a refused start" {
+        fn mode_word(&self, mode: u64, refusal: u64) -> u64 {
+            if refusal == 0 { mode } else { without_parity(mode) }
+        }
+    }
+    TakesAnyMode: "takes the mode 20 for one" {
+        fn refusal_of_start(&self, mode: u64, carry: u64) -> u64 {
+            refusals::of_start(if mode == 20 { 19 } else { mode }, carry)
         }
     }
     Forgets: "sets used to 0 where it refuses" {

@@ -2,13 +2,9 @@
 //! the state asked for, calls the Rust once, and reads the numbers back. No state is refused here;
 //! callers hand in states that 01 does not refuse.
 
-use crate::parser::{
-    AnyPacketRef, Parser, UbxParserIter, UbxRtcmNmeaParserIter, UbxRtcmParserIter,
-};
-use crate::{
-    FixedLinearBuffer, Holding, Limit, Numbers, ParserError, Reach, UbxPacket, UbxProtocol,
-    UnderlyingBuffer,
-};
+use crate::parser::{Parser, UbxParserIter};
+use crate::{corrected, steps};
+use crate::{FixedLinearBuffer, Holding, Limit, Numbers, Reach, UnderlyingBuffer};
 use std::mem::ManuallyDrop;
 
 /// What a step said. A body is where the Rust's slice lies in memory, check bytes of a UBX frame not
@@ -27,6 +23,11 @@ pub enum Said {
         got: u16,
     },
     NoRoom(usize),
+    /// Of the corrected Rust alone.
+    WrongParity {
+        expect: usize,
+        got: usize,
+    },
     NeedMore,
     /// An error that framing does not have.
     Other,
@@ -40,7 +41,7 @@ pub struct Lies {
 }
 
 impl Lies {
-    fn of(bytes: &[u8]) -> Lies {
+    pub fn of(bytes: &[u8]) -> Lies {
         Lies { address: bytes.as_ptr() as usize, length: bytes.len() }
     }
 }
@@ -64,8 +65,9 @@ pub fn open(mode: u64, carry: &mut [u8], live: usize, chunk: &[u8]) -> Numbers {
     }
 }
 
-/// What the Rust's `next` says, and the numbers after it. The limit is one of `LIMITS`.
-pub fn step(mode: u64, max: u16, sides: Sides) -> (Said, Numbers) {
+/// What the Rust's `next` says, and the numbers after it; with parity, what the corrected Rust's does.
+/// The limit is one of `LIMITS`.
+pub fn step(mode: u64, parity: bool, max: u16, sides: Sides) -> (Said, Numbers) {
     let at = LIMITS.binary_search(&max).expect("a payload limit that the oracle was built for");
     let which = if mode == 1 {
         0
@@ -74,7 +76,8 @@ pub fn step(mode: u64, max: u16, sides: Sides) -> (Said, Numbers) {
     } else {
         2
     };
-    STEPS[at][which](sides)
+    let steps = if parity { corrected::steps::STEPS } else { steps::STEPS };
+    steps[at][which](sides)
 }
 
 /// What the Rust keeps when an iterator at this state is dropped, and what it loses.
@@ -119,96 +122,23 @@ fn step_on<'a, 'b, I: Step + Reach<'a, 'b>>(
 }
 
 /// The iterator kept from closing.
-fn undropped<I>(iterator: I) -> ManuallyDrop<I> {
+pub fn undropped<I>(iterator: I) -> ManuallyDrop<I> {
     ManuallyDrop::new(iterator)
 }
 
-trait Step {
+/// An iterator's `next`, told in numbers.
+pub trait Step {
     fn step(&mut self) -> Said;
 }
 
-impl<P: UbxProtocol> Step for UbxParserIter<'_, FixedLinearBuffer<'_>, P> {
-    fn step(&mut self) -> Said {
-        match self.next() {
-            Some(Ok(packet)) => ubx(packet),
-            Some(Err(error)) => failed(error),
-            None => Said::NeedMore,
-        }
-    }
-}
-
-impl<P: UbxProtocol> Step for UbxRtcmParserIter<'_, FixedLinearBuffer<'_>, P> {
-    fn step(&mut self) -> Said {
-        any(self.next())
-    }
-}
-
-impl<P: UbxProtocol> Step for UbxRtcmNmeaParserIter<'_, FixedLinearBuffer<'_>, P> {
-    fn step(&mut self) -> Said {
-        any(self.next())
-    }
-}
-
-fn any(next: Option<Result<AnyPacketRef<'_>, ParserError>>) -> Said {
-    match next {
-        Some(Ok(AnyPacketRef::Ubx(packet))) => ubx(packet),
-        Some(Ok(AnyPacketRef::Rtcm(packet))) => Said::Rtcm(Lies::of(packet.data)),
-        Some(Ok(AnyPacketRef::Nmea(packet))) => Said::Sentence(Lies::of(packet.data)),
-        Some(Err(error)) => failed(error),
-        None => Said::NeedMore,
-    }
-}
-
-fn ubx(packet: UbxPacket<'_>) -> Said {
-    Said::Ubx { class: packet.class, id: packet.id, payload: Lies::of(packet.payload) }
-}
-
-fn failed(error: ParserError) -> Said {
-    match error {
-        ParserError::InvalidChecksum { expect, got } => Said::WrongSum { expect, got },
-        ParserError::OutOfMemory { required_size } => Said::NoRoom(required_size),
-        _ => Said::Other,
-    }
-}
-
-type StepOf = fn(Sides) -> (Said, Numbers);
-
-macro_rules! step_of {
-    ($name:ident, $iterator:ident) => {
-        fn $name<const MAX: u16>(sides: Sides) -> (Said, Numbers) {
-            let mut carry = FixedLinearBuffer::holding(sides.carry, sides.live);
-            let mut iterator = undropped($iterator::<_, Limit<MAX>>::at(
-                &mut carry,
-                sides.off,
-                sides.chunk,
-                sides.part_used,
-            ));
-            let said = iterator.step();
-            (said, iterator.numbers())
-        }
-    };
-}
-
-step_of!(step_ubx, UbxParserIter);
-step_of!(step_ubx_rtcm, UbxRtcmParserIter);
-step_of!(step_ubx_rtcm_nmea, UbxRtcmNmeaParserIter);
+/// A step of one mode and limit.
+pub type StepOf = fn(Sides) -> (Said, Numbers);
 
 macro_rules! limits {
     ($($max:literal)*) => {
         /// The payload limits that the Rust is built for, in order.
         pub const LIMITS: &[u16] = &[$($max),*];
-        const STEPS: &[[StepOf; 3]] = &[$(
-            [step_ubx::<$max>, step_ubx_rtcm::<$max>, step_ubx_rtcm_nmea::<$max>]
-        ),*];
     };
 }
 
-// The edges of a payload limit: the smallest ones; one and two length bytes (255, 256); C 0 to 130
-// less 7; 01's 16 and 240; an RTCM frame's 1,023 and 1,026; C = 16,384 and that less 7; all 16 bits.
-limits! {
-    0 1 2 3 4 5 6 7 8 9 10 11 12 13 14 15 16 17 18 19 20 21 22 23 24 25 31 32 33 40 63 64 65
-    73 74 75 76 80 81 82 83 84 89 90 100 115 116 117 121 122 123 124 127 128 129 130
-    239 240 241 246 247 248 249 250 254 255 256 257 511 512 513
-    1015 1016 1017 1018 1019 1020 1021 1022 1023 1024 1025 1026 1027 4095 4096 8192
-    16374 16375 16376 16377 16378 16379 16382 16383 16384 16385 32767 32768 65533 65534 65535
-}
+for_limits!(limits);

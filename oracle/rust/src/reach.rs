@@ -15,6 +15,8 @@ impl<'b> Holding<'b> for FixedLinearBuffer<'b> {
 macro_rules! reach {
     ($iterator:ident) => {
         impl<'a, 'b, P: UbxProtocol> Reach<'a, 'b> for $iterator<'a, FixedLinearBuffer<'b>, P> {
+            type Carry = FixedLinearBuffer<'b>;
+
             fn at(
                 carry: &'a mut FixedLinearBuffer<'b>,
                 off: usize,

@@ -13,8 +13,8 @@ slice-aggregate-text c = search needs
 text-requires : tie.Need-text-requires
 text-requires c κs = search needs
 
-hex2-requires : tie.Need-hex2-requires
-hex2-requires c κs = search needs
+hex-requires : tie.Need-hex-requires
+hex-requires c κs = search needs
 
 slice-aggregate-text-2 : tie.Need-slice-aggregate-text-2
 slice-aggregate-text-2 c = search needs
@@ -22,8 +22,8 @@ slice-aggregate-text-2 c = search needs
 text-requires-2 : tie.Need-text-requires-2
 text-requires-2 c κs = search needs
 
-hex2-requires-2 : tie.Need-hex2-requires-2
-hex2-requires-2 c κs = search needs
+hex-requires-2 : tie.Need-hex-requires-2
+hex-requires-2 c κs = search needs
 
 slice-aggregate-sized : tie.Need-slice-aggregate-sized
 slice-aggregate-sized c = search needs
@@ -38,7 +38,7 @@ returns : tie.Need-returns
 returns c =
     let x = c .before .before .before .before .before .before .before .before .before .before .before .before .before .before .before .before .before .before .before .before .before .before .before .before .args in
     let room : x .at ≤ length (x .out .now) = omega (arith, c .before .before .before .before .before .before .before .before .before .before .before .before .before .before .before .before .before .before .before .before .before .before .before .before .pre) in
-    behind room (behind room (behind room (behind room (c .before .before .before .before .before .before .before .before .before .before .before .before .before .before .before .before .before .before .before .before .text .ensures) (c .before .before .before .before .before .before .before .before .before .before .before .before .before .before .before .before .hex2 .ensures)) (c .before .before .before .before .before .before .before .before .before .before .before .text2 .ensures)) (c .before .before .before .before .before .before .before .hex22 .ensures)) (c .before .before .sized .ensures)
+    behind room (behind room (behind room (behind room (c .before .before .before .before .before .before .before .before .before .before .before .before .before .before .before .before .before .before .before .before .text .ensures) (c .before .before .before .before .before .before .before .before .before .before .before .before .before .before .before .before .hex .ensures .0)) (c .before .before .before .before .before .before .before .before .before .before .before .text2 .ensures)) (c .before .before .before .before .before .before .before .hex2 .ensures .0)) (c .before .before .sized .ensures)
 
 pub ubx-spec : {M : Type 1} → statement M
 ubx-spec =
@@ -46,10 +46,10 @@ ubx-spec =
     (tie.spec
     slice-aggregate-text
     text-requires
-    hex2-requires
+    hex-requires
     slice-aggregate-text-2
     text-requires-2
-    hex2-requires-2
+    hex-requires-2
     slice-aggregate-sized
     sized-requires
     same-length

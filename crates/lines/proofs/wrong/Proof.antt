@@ -5,8 +5,11 @@ use borrow.Author.Needs.{needs}
 use Rattle.lines.proofs.wrong.Statement.{statement}
 use Rattle.lines.proofs.wrong.Tie as tie
 
-sums-requires : tie.Need-sums-requires
-sums-requires c κs = search needs
+slice-aggregate-compared : tie.Need-slice-aggregate-compared
+slice-aggregate-compared c = search needs
+
+compared-requires : tie.Need-compared-requires
+compared-requires c κs = search needs
 
 ubx-requires : tie.Need-ubx-requires
 ubx-requires c κs = search needs
@@ -15,7 +18,7 @@ same-length : tie.Need-same-length
 same-length c = search needs
 
 returns : tie.Need-returns
-returns c = rw (c .before .before .before .before .if1 .taken) (behind (omega (arith, c .before .before .before .before .before .before .before .before .before .before .pre)) (c .before .before .before .before .before .before .before .sums .ensures) (c .before .before .ubx .ensures))
+returns c = rw (c .before .before .before .before .if1 .taken) (behind (omega (arith, c .before .before .before .before .before .before .before .before .before .before .before .pre)) (c .before .before .before .before .before .before .before .compared .ensures .0) (c .before .before .ubx .ensures))
 
 slice-aggregate-text : tie.Need-slice-aggregate-text
 slice-aggregate-text c = search needs
@@ -27,13 +30,14 @@ same-length-2 : tie.Need-same-length-2
 same-length-2 c = search needs
 
 returns-2 : tie.Need-returns-2
-returns-2 c = rw (c .before .before .before .before .before .if1 .left) (behind (omega (arith, c .before .before .before .before .before .before .before .before .before .before .before .pre)) (c .before .before .before .before .before .before .before .before .sums .ensures) (c .before .before .text .ensures))
+returns-2 c = rw (c .before .before .before .before .before .if1 .left) (behind (omega (arith, c .before .before .before .before .before .before .before .before .before .before .before .before .pre)) (c .before .before .before .before .before .before .before .before .compared .ensures .0) (c .before .before .text .ensures))
 
 pub wrong-spec : {M : Type 1} → statement M
 wrong-spec =
     tie.close
     (tie.spec
-    sums-requires
+    slice-aggregate-compared
+    compared-requires
     ubx-requires
     same-length
     returns

@@ -31,7 +31,7 @@ returns c =
       listing = rw (e .0);
       carries = e .1;
       puts = p;
-      goes = ap (λ (n : ℕ). ltb (x .l .waiting) n) (p .place) ∙ grows (x .l .named) (x .l .used) (x .l .waiting) (o .result .answer);
+      goes = ap (λ (n : ℕ). ltb (x .l .waiting) n) (p .place) ∙ grows (x .l .named) (x .l .state .mode) (x .l .used) (x .l .waiting) (o .result .answer);
     }
 
 pub one-spec : {M : Type 1} → statement M

@@ -42,16 +42,19 @@ returns-3 c = let x = c .before .before .before .before .before .before .before 
     c .at-ubx .ensures ∙ sym (look-sync (x .mode) (x .max) (x .cap) (length (x .a .now)) W _ (c .before .before .before .before .byte-at .ensures) h (sym (c .before .before .before .is-sync .ensures) ∙ not-false _ (c .before .before .if2 .left))
     ∙ rw (eq-eqb _ _ (c .before .if3 .taken)))
 
+has-parity-requires : tie.Need-has-parity-requires
+has-parity-requires c κs = search needs
+
 at-rtcm-requires : tie.Need-at-rtcm-requires
 at-rtcm-requires c κs = search needs
 
 returns-4 : tie.Need-returns-4
 unfolding pick
-returns-4 c = let x = c .before .before .before .before .before .before .before .before .before .args in
+returns-4 c = let x = c .before .before .before .before .before .before .before .before .before .before .args in
     let W = x .a .now ++ x .b .now in
     let h : 0 < length W = simp length-append (omega arith) in
-    c .at-rtcm .ensures ∙ sym (look-sync (x .mode) (x .max) (x .cap) (length (x .a .now)) W _ (c .before .before .before .before .before .byte-at .ensures) h (sym (c .before .before .before .before .is-sync .ensures) ∙ not-false _ (c .before .before .before .if2 .left))
-    ∙ rw (ne-eqb _ _ (c .before .before .if3 .left), eq-eqb _ _ (c .before .if4 .taken)))
+    c .at-rtcm .ensures ∙ rw (c .before .has-parity .ensures) (sym (look-sync (x .mode) (x .max) (x .cap) (length (x .a .now)) W _ (c .before .before .before .before .before .before .byte-at .ensures) h (sym (c .before .before .before .before .before .is-sync .ensures) ∙ not-false _ (c .before .before .before .before .if2 .left))
+    ∙ rw (ne-eqb _ _ (c .before .before .before .if3 .left), eq-eqb _ _ (c .before .before .if4 .taken))))
 
 at-nmea-requires : tie.Need-at-nmea-requires
 at-nmea-requires c κs = search needs
@@ -75,6 +78,7 @@ look-spec =
     returns-2
     at-ubx-requires
     returns-3
+    has-parity-requires
     at-rtcm-requires
     returns-4
     at-nmea-requires

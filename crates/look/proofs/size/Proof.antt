@@ -13,8 +13,11 @@ add-result c = let h = rw (c .before .kind .given .1) at (c .before .before .bef
 enum-known-kind-2 : tie.Need-enum-known-kind-2
 enum-known-kind-2 c = search needs
 
+around-requires : tie.Need-around-requires
+around-requires c κs = search needs
+
 add-result-2 : tie.Need-add-result-2
-add-result-2 c = let h = rw (c .before .kind2 .given .1) at (c .before .before .before .pre) in omega arith
+add-result-2 c = let h = rw (c .before .before .kind2 .given .1) at (c .before .before .before .before .pre) in omega (arith, c .around .ensures .0)
 
 enum-known-kind-3 : tie.Need-enum-known-kind-3
 enum-known-kind-3 c = search needs
@@ -26,7 +29,7 @@ returns : tie.Need-returns
 returns c = rw (c .before .kind .given .1)
 
 returns-2 : tie.Need-returns-2
-returns-2 c = rw (c .before .kind2 .given .1)
+returns-2 c = rw (c .before .before .kind2 .given .1, c .around .ensures .0)
 
 returns-3 : tie.Need-returns-3
 returns-3 c = rw (c .before .kind3 .given .1)
@@ -38,6 +41,7 @@ size-spec =
     enum-known-kind
     add-result
     enum-known-kind-2
+    around-requires
     add-result-2
     enum-known-kind-3
     add-result-3

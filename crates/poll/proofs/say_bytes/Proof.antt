@@ -14,20 +14,11 @@ abbrev μ-loop : tie.MeasureT-loop
 loop-holds : tie.Need-loop-holds Inv-loop μ-loop
 loop-holds c = search needs
 
-slice-aggregate-hex2 : tie.Need-slice-aggregate-hex2 Inv-loop μ-loop
-slice-aggregate-hex2 c = search needs
+shared-slice-read-say-byte : tie.Need-shared-slice-read-say-byte Inv-loop μ-loop
+shared-slice-read-say-byte c = search needs
 
-shared-slice-read-hex2 : tie.Need-shared-slice-read-hex2 Inv-loop μ-loop
-shared-slice-read-hex2 c = search needs
-
-hex2-requires : tie.Need-hex2-requires Inv-loop μ-loop
-hex2-requires c κs = search needs
-
-slice-aggregate-say : tie.Need-slice-aggregate-say Inv-loop μ-loop
-slice-aggregate-say c = search needs
-
-say-requires : tie.Need-say-requires Inv-loop μ-loop
-say-requires c κs = search needs
+say-byte-requires : tie.Need-say-byte-requires Inv-loop μ-loop
+say-byte-requires c κs = search needs
 
 add-i : tie.Need-add-i Inv-loop μ-loop
 add-i c = search needs
@@ -48,11 +39,8 @@ say-bytes-spec =
     Inv-loop
     μ-loop
     loop-holds
-    slice-aggregate-hex2
-    shared-slice-read-hex2
-    hex2-requires
-    slice-aggregate-say
-    say-requires
+    shared-slice-read-say-byte
+    say-byte-requires
     add-i
     loop-less
     loop-again

@@ -5,7 +5,7 @@ use Prim.Native.Nat.{ℕ}
 use types.Run.{OneOf, miss}
 use denote.Enum.Declared.{tagOf}
 use Rattle.taking.specs.declared.Place.{Place}
-use Rattle.framer.specs.declared.Answer.{Answer, the-variants.{UbxFrame, RtcmFrame, Sentence, WrongSum, NoRoom, NeedMore, Refused}}
+use Rattle.framer.specs.declared.Answer.{Answer, the-variants.{UbxFrame, RtcmFrame, Sentence, WrongSum, NoRoom, NeedMore, Refused, WrongParity}}
 use Rattle.framer.proofs.Answer.{the-type}
 use Rattle.stamp.specs.declared.Clock.{Clock}
 use Rattle.stamp.specs.Stamp.{read}
@@ -16,14 +16,15 @@ use Rattle.stamp.proofs.tell.Statement.{statement}
 use Rattle.stamp.proofs.tell.Tie as tie
 
 -- every kind but the first
-others : (clock : Clock) (sight : Place → List ℕ) (a : Answer) → OneOf (1 ∷ 2 ∷ 3 ∷ 4 ∷ 5 ∷ 6 ∷ []) (tagOf the-type a) → nothing clock ≡ tells clock sight a
-others clock sight (UbxFrame class id p place) h = absurd (miss (1 ∷ 2 ∷ 3 ∷ 4 ∷ 5 ∷ 6 ∷ []) 0 tt h)
+others : (clock : Clock) (sight : Place → List ℕ) (a : Answer) → OneOf (1 ∷ 2 ∷ 3 ∷ 4 ∷ 5 ∷ 6 ∷ 7 ∷ []) (tagOf the-type a) → nothing clock ≡ tells clock sight a
+others clock sight (UbxFrame class id p place) h = absurd (miss (1 ∷ 2 ∷ 3 ∷ 4 ∷ 5 ∷ 6 ∷ 7 ∷ []) 0 tt h)
 others clock sight (RtcmFrame p place) h = refl
 others clock sight (Sentence p place) h = refl
 others clock sight (WrongSum class id n p expect got) h = refl
 others clock sight (NoRoom p size) h = refl
 others clock sight NeedMore h = refl
 others clock sight (Refused r) h = refl
+others clock sight (WrongParity p expect got) h = refl
 
 enum-known-answer : tie.Need-enum-known-answer
 enum-known-answer c = search needs

@@ -70,6 +70,21 @@ refusal-no-requires c κs = search needs
 write-plain-requires-3 : tie.Need-write-plain-requires-3
 write-plain-requires-3 c κs = search needs
 
+enum-known-answer-7 : tie.Need-enum-known-answer-7
+enum-known-answer-7 c = search needs
+
+word-requires-6 : tie.Need-word-requires-6
+word-requires-6 c κs = search needs
+
+word32-requires : tie.Need-word32-requires
+word32-requires c κs = search needs
+
+word32-requires-2 : tie.Need-word32-requires-2
+word32-requires-2 c κs = search needs
+
+write-plain-requires-4 : tie.Need-write-plain-requires-4
+write-plain-requires-4 c κs = search needs
+
 returns : tie.Need-returns
 returns c = c .write-frame .ensures ∙ rw (c .before .before .before .before .before .before .answer .given .1, c .before .before .before .word .ensures, c .before .before .word8 .ensures, c .before .word82 .ensures)
 
@@ -86,10 +101,13 @@ returns-5 : tie.Need-returns-5
 returns-5 c = c .write-plain .ensures ∙ rw (c .before .before .before .before .before .answer5 .given .1, c .before .before .word4 .ensures, c .before .word5 .ensures)
 
 returns-6 : tie.Need-returns-6
-returns-6 c = search needs
+returns-6 c = c .write-plain2 .ensures ∙ rw (c .before .before .enum-told .given .1)
 
 returns-7 : tie.Need-returns-7
 returns-7 c = c .write-plain3 .ensures ∙ rw (c .before .before .before .before .answer6 .given .1, c .before .refusal-no .ensures)
+
+returns-8 : tie.Need-returns-8
+returns-8 c = c .write-plain4 .ensures ∙ rw (c .before .before .before .before .before .before .answer7 .given .1, c .before .before .before .word6 .ensures, c .before .before .word32 .ensures, c .before .word322 .ensures)
 
 pub write-answer-spec : {M : Type 1} → statement M
 write-answer-spec =
@@ -117,10 +135,16 @@ write-answer-spec =
     enum-known-answer-6
     refusal-no-requires
     write-plain-requires-3
+    enum-known-answer-7
+    word-requires-6
+    word32-requires
+    word32-requires-2
+    write-plain-requires-4
     returns
     returns-2
     returns-3
     returns-4
     returns-5
     returns-6
-    returns-7)
+    returns-7
+    returns-8)

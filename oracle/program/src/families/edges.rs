@@ -1,29 +1,36 @@
 //! One frame at the edges of its payload limit and of the carry, cut near every field: UBX with n
-//! around MAX and C around n + 2, n + 8 and MAX + 7, RTCM with C around n + 3 and 1,026.
+//! around MAX and C around n + 2, n + 8 and MAX + 7, RTCM with C around n + 3 and 1,026, with parity
+//! around n + 6 and 1,029.
 
-use super::{limit_up_to, Family};
+use super::{limit_up_to, Family, Modes};
 use crate::bytes::{self, Setting, T};
 use crate::random::Random;
 use crate::run::{Run, Stop};
 use crate::words::*;
 
-#[derive(Default)]
 pub struct Edges {
+    modes: Modes,
     done: u64,
+}
+
+impl Edges {
+    pub(super) fn new(modes: Modes) -> Edges {
+        Edges { modes, done: 0 }
+    }
 }
 
 impl Family for Edges {
     fn progress(&self) -> String {
-        format!("{} frames at the edges of MAX and C", self.done)
+        format!("{} frames at the edges of MAX and C{}", self.done, self.modes.name())
     }
 
     fn part(&mut self, run: &mut Run, random: &mut Random) -> Result<(), Stop> {
         for _ in 0..64 {
             self.done += 1;
-            if random.once_in(3) {
-                rtcm(run, random)?;
-            } else {
-                ubx(run, random)?;
+            match self.modes {
+                Modes::Parity => rtcm(run, random, self.modes)?,
+                Modes::Plain if random.once_in(3) => rtcm(run, random, self.modes)?,
+                Modes::Plain => ubx(run, random)?,
             }
         }
         Ok(())
@@ -68,7 +75,7 @@ fn noise_before(random: &mut Random) -> Vec<u8> {
     noise
 }
 
-fn rtcm(run: &mut Run, random: &mut Random) -> Result<(), Stop> {
+fn rtcm(run: &mut Run, random: &mut Random, modes: Modes) -> Result<(), Stop> {
     let n = match random.below(4) {
         0 => random.pick(&[1021, 1022, 1023]),
         1 => random.pick(&[255, 256, 257, 511, 512]),
@@ -78,10 +85,18 @@ fn rtcm(run: &mut Run, random: &mut Random) -> Result<(), Stop> {
     let frame = stream.len();
     bytes::put_rtcm_head(&mut stream, n, random.byte() & 63);
     bytes::put_payload(random, &mut stream, n);
-    let setting =
+    let mut setting =
         Setting { mode: random.between(2, 3) as u64, max: random.pick(&[0, 16, 240]), c: 0 };
-    let edges = [n + 3, n + 3, n, 1026];
-    let cuts = [1, 2, 3, 4, n + 1, n + 2, n + 3, n / 2];
+    if modes == Modes::Plain {
+        let edges = [n + 3, n + 3, n, 1026];
+        let cuts = [1, 2, 3, 4, n + 1, n + 2, n + 3, n / 2];
+        return in_two(run, random, setting, stream, frame, &edges, &cuts);
+    }
+    setting.mode += PARITY;
+    let off = bytes::parity_off(random);
+    bytes::put_parity(&mut stream, frame, off);
+    let edges = [n + 6, n + 6, n + 3, n, 1026, 1029];
+    let cuts = [1, 2, 3, 4, n + 1, n + 2, n + 3, n + 4, n + 5, n + 6, n / 2];
     in_two(run, random, setting, stream, frame, &edges, &cuts)
 }
 

@@ -1,34 +1,40 @@
 //! Calls to be refused, and their neighbours that are not: states with any word anywhere, wrong
 //! lengths, places at and past the end, and lengths beyond any buffer.
 
-use super::{any_bytes, setting, state_of, Family, Size};
+use super::{any_bytes, setting, state_of, Family, Modes, Size};
 use crate::random::Random;
 use crate::run::{Run, Stop};
 use crate::words::*;
 use ublox_framing::numbers::LIMITS;
 
-#[derive(Default)]
 pub struct Forged {
+    modes: Modes,
     done: u64,
+}
+
+impl Forged {
+    pub(super) fn new(modes: Modes) -> Forged {
+        Forged { modes, done: 0 }
+    }
 }
 
 impl Family for Forged {
     fn progress(&self) -> String {
-        format!("{} forged states, wrong lengths and places", self.done)
+        format!("{} forged states, wrong lengths and places{}", self.done, self.modes.name())
     }
 
     fn part(&mut self, run: &mut Run, random: &mut Random) -> Result<(), Stop> {
         for _ in 0..512 {
             self.done += 1;
-            case(run, random)?;
+            case(run, random, self.modes)?;
         }
         Ok(())
     }
 }
 
-fn case(run: &mut Run, random: &mut Random) -> Result<(), Stop> {
+fn case(run: &mut Run, random: &mut Random, modes: Modes) -> Result<(), Stop> {
     let size = if random.once_in(64) { Size::Big } else { Size::Tiny };
-    let setting = setting(random, size);
+    let setting = setting(random, size, modes);
     let live = random.edge(0, setting.c);
     let mut state = state_of(random, &setting, live);
     let longest = if size == Size::Big { LIMIT as usize } else { 40 };
@@ -41,6 +47,7 @@ fn case(run: &mut Run, random: &mut Random) -> Result<(), Stop> {
         match random.below(8) {
             0 => carry_length = wrong_length(random, carry_length),
             1 => chunk_length = wrong_length(random, chunk_length),
+            2 if modes == Modes::Parity => state[MODE] = near_mode(random),
             _ => forge(random, &mut state),
         }
     }
@@ -55,7 +62,7 @@ fn case(run: &mut Run, random: &mut Random) -> Result<(), Stop> {
     let chunk = any_bytes(random, chunk_length);
     run.begin(&state, &carry, &chunk);
     for _ in 0..random.between(1, 3) {
-        let call = any_call(random, carry_length, chunk_length);
+        let call = any_call(random, modes, carry_length, chunk_length);
         run.call(call);
     }
     run.end()
@@ -115,8 +122,21 @@ fn wrong_length(random: &mut Random, length: usize) -> usize {
     }
 }
 
-fn any_call(random: &mut Random, carry_length: usize, chunk_length: usize) -> Call {
+/// A mode's number, or one beside it.
+fn near_mode(random: &mut Random) -> u64 {
+    const BESIDE: [u64; 15] = [0, 4, 5, 15, 16, 20, 21, 32, 33, 34, 35, 48, 49, 50, 51];
+    let number = if random.once_in(2) { random.pick(&BESIDE) } else { random.pick(&MODES) };
+    match random.below(6) {
+        0 => number.wrapping_add(random.pick(&[1 << 8, 1 << 16, 1 << 32, 1 << 63])),
+        _ => number,
+    }
+}
+
+fn any_call(random: &mut Random, modes: Modes, carry_length: usize, chunk_length: usize) -> Call {
     match random.below(5) {
+        0 if modes == Modes::Parity => {
+            Call::Start { mode: near_mode(random), max: random.pick(LIMITS) }
+        }
         0 => {
             let mode = if random.once_in(2) { random.below(5) as u64 } else { any_word(random, 3) };
             Call::Start { mode, max: random.pick(LIMITS) }
@@ -182,7 +202,7 @@ impl Family for Huge {
 }
 
 fn huge_case(run: &mut Run, random: &mut Random) -> Result<(), Stop> {
-    let setting = setting(random, Size::Tiny);
+    let setting = setting(random, Size::Tiny, Modes::Plain);
     let live = random.edge(0, setting.c);
     let mut state = state_of(random, &setting, live);
     let chunk_length = random.below(40);

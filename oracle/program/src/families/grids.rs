@@ -1,5 +1,6 @@
-//! Two grids that are gone through whole, again and again: frames of every small size on both sides of
-//! carries of every size near theirs, and sentences of every length around 8 and 82.
+//! Grids that are gone through whole, again and again: frames of every small size on both sides of
+//! carries of every size near theirs, the same of RTCM frames with parity, and sentences of every length
+//! around 8 and 82.
 
 use super::{any_bytes, state_of, Family};
 use crate::bytes::{self, Setting, T};
@@ -79,20 +80,69 @@ fn take(run: &mut Run, random: &mut Random, point: &[usize]) -> Result<(), Stop>
     let frame = window.len();
     let in_carry = in_carry.min(frame);
     bytes::put_payload(random, &mut window, behind);
-    let live = off + in_carry;
-    let c = (off + frame + spare).saturating_sub(6).max(live);
+    let c = (off + frame + spare).saturating_sub(6).max(off + in_carry);
     let setting = Setting { mode: 3 - u64::from(kind < 2 && random.once_in(2)), max: 16, c };
-    let mut carry = any_bytes(random, c);
+    on_both_sides(run, random, &setting, &window, in_carry, [off, part_used])
+}
+
+/// The window's first bytes in the carry behind `before[0]` bytes used up, its others in the chunk behind
+/// `before[1]`: stepped and closed.
+fn on_both_sides(
+    run: &mut Run,
+    random: &mut Random,
+    setting: &Setting,
+    window: &[u8],
+    in_carry: usize,
+    before: [usize; 2],
+) -> Result<(), Stop> {
+    let [off, part_used] = before;
+    let live = off + in_carry;
+    let mut carry = any_bytes(random, setting.c);
     carry[off..live].copy_from_slice(&window[..in_carry]);
     let mut chunk = any_bytes(random, part_used);
     chunk.extend_from_slice(&window[in_carry..]);
-    let mut state = state_of(random, &setting, live);
+    let mut state = state_of(random, setting, live);
     let words = [off, random.below(9), 1, chunk.len(), part_used];
     (OFF..=PART_USED).zip(words).for_each(|(at, word)| state[at] = word as u64);
     run.begin(&state, &carry, &chunk);
     run.step_on(4);
     run.call(Call::Close);
     run.end()
+}
+
+/// Which byte of the parity is wrong, if one is; how much of the frame is in the carry; its payload;
+/// bytes used up before it; C less what the frame needs; what comes behind; the chunk part used.
+pub fn parities() -> Grid {
+    Grid {
+        name: "RTCM frames with parity on both sides",
+        measures: &[4, 13, 6, 4, 9, 5, 3],
+        next: 0,
+        rounds: 0,
+        case: parity,
+    }
+}
+
+fn parity(run: &mut Run, random: &mut Random, point: &[usize]) -> Result<(), Stop> {
+    let &[wrong, in_carry, n, off, spare, behind, part_used] = point else { unreachable!() };
+    let mut window = Vec::new();
+    bytes::put_rtcm_head(&mut window, n, random.byte() & 63);
+    bytes::put_payload(random, &mut window, n);
+    let mut added = [0; 3];
+    if wrong > 0 {
+        added[wrong - 1] = random.between(1, 255) as u8;
+    }
+    bytes::put_parity(&mut window, 0, added);
+    let frame = window.len();
+    let in_carry = in_carry.min(frame);
+    match behind {
+        // Cut within its parity.
+        4 => window.truncate(in_carry.max(frame - random.between(1, 3))),
+        3 => window.extend_from_slice(&T),
+        _ => bytes::put_payload(random, &mut window, behind),
+    }
+    let c = (off + frame + spare).saturating_sub(6).max(off + in_carry);
+    let setting = Setting { mode: random.pick(&[18, 19]), max: 16, c };
+    on_both_sides(run, random, &setting, &window, in_carry, [off, part_used])
 }
 
 /// Length; end; a sync byte within; where it is cut; C; what comes behind.

@@ -1,22 +1,32 @@
 //! Long runs for the searches and for the sum: bytes that are nearly sync bytes with one among them,
-//! sentences with half end marks before the whole one, payloads with one byte or two changed. Lengths
-//! and splits go over every block size that a fast loop may have.
+//! sentences with half end marks before the whole one, payloads with one byte or two changed, and with
+//! parity RTCM frames so changed. Lengths and splits go over every block size that a fast loop may have.
 
-use super::{any_bytes, state_of, Family};
+use super::{any_bytes, state_of, Family, Modes};
 use crate::bytes::{self, Setting, T};
 use crate::random::Random;
 use crate::run::{Run, Stop};
 use crate::words::*;
 use ublox_framing::numbers::LIMITS;
 
-#[derive(Default)]
 pub struct Runs {
+    modes: Modes,
     done: u64,
+}
+
+impl Runs {
+    pub(super) fn new(modes: Modes) -> Runs {
+        Runs { modes, done: 0 }
+    }
 }
 
 impl Family for Runs {
     fn progress(&self) -> String {
-        format!("{} long runs for the searches and the sum", self.done)
+        let name = match self.modes {
+            Modes::Plain => "long runs for the searches and the sum",
+            Modes::Parity => "long runs for the parity",
+        };
+        format!("{} {name}", self.done)
     }
 
     fn part(&mut self, run: &mut Run, random: &mut Random) -> Result<(), Stop> {
@@ -24,12 +34,14 @@ impl Family for Runs {
             self.done += 1;
             let most = if random.once_in(256) { 30_000 } else { 420 };
             let length = random.between(0, most);
-            let window = match random.below(3) {
-                0 => search(random, length),
-                1 => sentence(random, length),
-                _ => payload(random, length.min(16_384)),
+            let window = match (self.modes, random.below(3)) {
+                (Modes::Parity, 0) => stray(random, length),
+                (Modes::Parity, _) => rtcm(random, length),
+                (Modes::Plain, 0) => search(random, length),
+                (Modes::Plain, 1) => sentence(random, length),
+                (Modes::Plain, _) => payload(random, length.min(16_384)),
             };
-            case(run, random, window)?;
+            case(run, random, window, self.modes)?;
         }
         Ok(())
     }
@@ -93,24 +105,55 @@ fn payload(random: &mut Random, n: usize) -> Vec<u8> {
     let payload = any_bytes(random, n);
     let (class, id) = (random.byte(), random.byte());
     bytes::put_ubx(&mut window, class, id, &payload, 0, 0);
-    let last = window.len() - 1;
-    match random.below(3) {
-        0 => {
-            let at = random.between(2, last);
-            window[at] = window[at].wrapping_add(random.pick(&[1, 0xFF, 0x80]));
-        }
-        1 => {
-            let (one, other) = (random.between(2, last), random.between(2, last));
-            window.swap(one, other);
-        }
-        _ => {}
+    change(random, &mut window, 2);
+    window.extend_from_slice(&T);
+    window
+}
+
+/// An RTCM frame with its parity, so changed behind its head; n is often near 1,023.
+fn rtcm(random: &mut Random, n: usize) -> Vec<u8> {
+    let n = if random.once_in(16) { random.between(900, 1023) } else { n.min(1023) };
+    let mut window = Vec::new();
+    bytes::put_rtcm_head(&mut window, n, random.byte() & 63);
+    window.extend(any_bytes(random, n));
+    bytes::put_parity(&mut window, 0, [0; 3]);
+    change(random, &mut window, 3);
+    window.extend_from_slice(&T);
+    window
+}
+
+/// D3 by itself, before UBX frames that it reads as its own payload, or before noise.
+fn stray(random: &mut Random, length: usize) -> Vec<u8> {
+    let mut window = vec![D3];
+    if random.once_in(4) {
+        nearly(random, &mut window, length);
+    }
+    for _ in 0..random.below(8) {
+        let payload = any_bytes(random, length.min(200));
+        bytes::put_ubx(&mut window, 1, 2, &payload, 0, 0);
     }
     window.extend_from_slice(&T);
     window
 }
 
+/// Changes one byte, swaps two, or leaves all as they are; those before `from` stay.
+fn change(random: &mut Random, window: &mut [u8], from: usize) {
+    let last = window.len() - 1;
+    match random.below(3) {
+        0 => {
+            let at = random.between(from, last);
+            window[at] = window[at].wrapping_add(random.pick(&[1, 0xFF, 0x80]));
+        }
+        1 => {
+            let (one, other) = (random.between(from, last), random.between(from, last));
+            window.swap(one, other);
+        }
+        _ => {}
+    }
+}
+
 /// The window on its two sides, with bytes used up before each.
-fn case(run: &mut Run, random: &mut Random, window: Vec<u8>) -> Result<(), Stop> {
+fn case(run: &mut Run, random: &mut Random, window: Vec<u8>, modes: Modes) -> Result<(), Stop> {
     let limit = LIMIT as usize;
     let (off, part_used) = (random.below(20), random.below(20));
     let least = window.len().saturating_sub(limit - part_used);
@@ -123,7 +166,7 @@ fn case(run: &mut Run, random: &mut Random, window: Vec<u8>) -> Result<(), Stop>
     let live = off + in_carry;
     let c = random.near(live.max(window.len() + 4), 8, limit).max(live);
     let max = LIMITS[LIMITS.partition_point(|max| usize::from(*max) < window.len())];
-    let setting = Setting { mode: random.between(1, 3) as u64, max, c };
+    let setting = Setting { mode: modes.any(random), max, c };
     let mut carry = any_bytes(random, c);
     carry[off..live].copy_from_slice(&window[..in_carry]);
     let mut chunk = any_bytes(random, part_used);

@@ -1,26 +1,32 @@
 //! Whole lives of a framer: started, then opened, stepped and closed chunk after chunk of one stream,
 //! with calls out of turn between.
 
-use super::{any_bytes, setting, size, state_of, Family, Size};
+use super::{any_bytes, setting, size, state_of, Family, Modes, Size};
 use crate::bytes::{self, Setting};
 use crate::random::Random;
 use crate::run::{Run, Stop};
 use crate::words::*;
 
-#[derive(Default)]
 pub struct Sessions {
+    modes: Modes,
     done: u64,
+}
+
+impl Sessions {
+    pub(super) fn new(modes: Modes) -> Sessions {
+        Sessions { modes, done: 0 }
+    }
 }
 
 impl Family for Sessions {
     fn progress(&self) -> String {
-        format!("{} sessions over random and structured streams", self.done)
+        format!("{} sessions over random and structured streams{}", self.done, self.modes.name())
     }
 
     fn part(&mut self, run: &mut Run, random: &mut Random) -> Result<(), Stop> {
         for _ in 0..256 {
             let size = size(random);
-            let setting = setting(random, size);
+            let setting = setting(random, size, self.modes);
             let length = match size {
                 Size::Tiny => random.between(0, 120),
                 Size::Small => random.between(0, 400),
@@ -39,7 +45,8 @@ impl Family for Sessions {
 pub fn run_capture(run: &mut Run, random: &mut Random, capture: &[u8]) -> Result<(), Stop> {
     for _ in 0..400 {
         let size = random.pick(&[Size::Small, Size::Fitting, Size::Big]);
-        let setting = setting(random, size);
+        let modes = if random.once_in(3) { Modes::Parity } else { Modes::Plain };
+        let setting = setting(random, size, modes);
         let length = random.between(1, 20_000).min(capture.len());
         let from = random.between(0, capture.len() - length);
         session(run, random, &setting, &capture[from..from + length])?;

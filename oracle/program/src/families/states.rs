@@ -1,34 +1,40 @@
 //! Any legal state, reached or not: live, off, part used and used are set at will, with a window worth
 //! framing on its two sides.
 
-use super::{any_bytes, setting, size, state_of, Family, Size};
+use super::{any_bytes, setting, size, state_of, Family, Modes, Size};
 use crate::bytes;
 use crate::random::Random;
 use crate::run::{Run, Stop};
 use crate::words::*;
 
-#[derive(Default)]
 pub struct States {
+    modes: Modes,
     done: u64,
+}
+
+impl States {
+    pub(super) fn new(modes: Modes) -> States {
+        States { modes, done: 0 }
+    }
 }
 
 impl Family for States {
     fn progress(&self) -> String {
-        format!("{} legal states, reached or not", self.done)
+        format!("{} legal states, reached or not{}", self.done, self.modes.name())
     }
 
     fn part(&mut self, run: &mut Run, random: &mut Random) -> Result<(), Stop> {
         for _ in 0..1024 {
             self.done += 1;
-            case(run, random)?;
+            case(run, random, self.modes)?;
         }
         Ok(())
     }
 }
 
-fn case(run: &mut Run, random: &mut Random) -> Result<(), Stop> {
+fn case(run: &mut Run, random: &mut Random, modes: Modes) -> Result<(), Stop> {
     let size = size(random);
-    let setting = setting(random, size);
+    let setting = setting(random, size, modes);
     let longest = match size {
         Size::Tiny => 40,
         Size::Small => 130,

@@ -2,7 +2,7 @@
 //! broken frames: at every split between carry and chunk, in each mode, with the carries near it.
 
 use super::{any_bytes, state_of, Family};
-use crate::bytes::{Setting, T, U};
+use crate::bytes::{put_parity, Setting, T, U};
 use crate::random::Random;
 use crate::run::{Run, Stop};
 use crate::words::*;
@@ -17,6 +17,7 @@ pub struct Strings {
     at_once: usize,
     /// Whether every carry length from the split on is tried, or the edges only.
     every_c: bool,
+    modes: &'static [u64],
     limits: &'static [u16],
 }
 
@@ -30,6 +31,7 @@ impl Strings {
             next: 0,
             at_once: 40,
             every_c: true,
+            modes: &[1, 2, 3],
             limits: &[0, 1],
         }
     }
@@ -60,7 +62,38 @@ impl Strings {
             next: 0,
             at_once: 2,
             every_c: false,
+            modes: &[1, 2, 3],
             limits: &[0, 1, 16],
+        }
+    }
+
+    /// 47 EA 4B is the parity of D3 00 00.
+    pub fn of_tokens_with_parity() -> Strings {
+        let mut frame = vec![D3, 0xFC, 0x01, B5];
+        put_parity(&mut frame, 0, [0; 3]);
+        let tokens: [&[u8]; 12] = [
+            &[D3],
+            &[0x00, 0x00],
+            &[0x47, 0xEA, 0x4B],
+            &[0x47, 0xEA],
+            &[0x4B],
+            &[D3, 0x00, 0x00, 0x47, 0xEA, 0x4B],
+            &[D3, 0x00, 0x00, 0x4B, 0xEA, 0x47],
+            &frame,
+            &frame[..4],
+            &T,
+            b"$GPTXT",
+            &[0x0D, 0x0A],
+        ];
+        Strings {
+            name: "12 whole and broken frames with parity",
+            tokens: tokens.iter().map(|token| token.to_vec()).collect(),
+            length: 0,
+            next: 0,
+            at_once: 4,
+            every_c: false,
+            modes: &[17, 18, 19],
+            limits: &[16],
         }
     }
 
@@ -130,9 +163,9 @@ impl Family for Strings {
             let string = self.string();
             for split in 0..=string.len() {
                 for c in self.carries(split, string.len()) {
-                    for mode in 1..=3 {
+                    for mode in self.modes {
                         for max in self.limits {
-                            let setting = Setting { mode, max: *max, c };
+                            let setting = Setting { mode: *mode, max: *max, c };
                             self.case(run, random, &setting, &string, split)?;
                         }
                     }

@@ -1,10 +1,10 @@
 //! calls.bin: openings, steps and closings that are not refused. 01's bench set and the edges of RTCM
 //! frames, sentences and payloads come first, then what the families of the comparison meet, one of
-//! each situation.
+//! each situation; then the same with parity: its edges, and what the families with parity meet.
 
-use crate::bytes::{put_rtcm_head, put_ubx, put_ubx_head, Setting, T, U};
+use crate::bytes::{put_parity, put_rtcm_head, put_ubx, put_ubx_head, Setting, T, U};
 use crate::counts::place_kind;
-use crate::families;
+use crate::families::{self, Family};
 use crate::random::Random;
 use crate::run::{Record, Run, Stop, Until};
 use crate::rust_side::RustSide;
@@ -37,10 +37,23 @@ pub fn records() -> Result<Vec<Record>, String> {
     rtcm_edge(&mut run);
     sentence_edges(&mut run);
     ubx_edges(&mut run);
-    let mut run = watched(&chosen, Some(WATCHED), Chosen::consider);
-    match families::go_round(&mut families::all(), &mut run, 1) {
+    watch_families(&chosen, &mut families::without_parity(), Chosen::consider)?;
+    let mut run = watched(&chosen, None, Chosen::take);
+    parity_set(&mut run);
+    parity_edge(&mut run);
+    watch_families(&chosen, &mut families::with_parity(), Chosen::consider_parity)?;
+    Ok(chosen.take().records)
+}
+
+fn watch_families(
+    chosen: &Rc<RefCell<Chosen>>,
+    families: &mut [Box<dyn Family>],
+    look: fn(&mut Chosen, Record),
+) -> Result<(), String> {
+    let mut run = watched(chosen, Some(WATCHED), look);
+    match families::go_round(families, &mut run, 1) {
         Stop::Difference(_) => Err("the Rust differs from itself".to_string()),
-        Stop::Enough => Ok(chosen.take().records),
+        Stop::Enough => Ok(()),
     }
 }
 
@@ -70,6 +83,14 @@ impl Chosen {
             *met += 1;
             self.of_size[size] += 1;
             self.records.push(record);
+        }
+    }
+
+    /// The same of records that parity has a part in: steps at D3.
+    fn consider_parity(&mut self, record: Record) {
+        let is_parity = matches!(record.out[0], RTCM_FRAME | WRONG_PARITY | NO_ROOM);
+        if record.call == Call::Step && is_parity {
+            self.consider(record);
         }
     }
 
@@ -153,7 +174,7 @@ fn step_situation(record: &Record, w: i64) -> Vec<i64> {
             let copied = if place >= 2 { spare.clamp(-2, 2) } else { 0 };
             vec![skipped, place, copied, (taken - c).clamp(-1, 1), at_max, near_edge(taken)]
         }
-        WRONG_SUM => {
+        WRONG_SUM | WRONG_PARITY => {
             vec![skipped, (w - c).clamp(-1, 1), (before[LIVE] - before[OFF]).min(2) as i64]
         }
         NO_ROOM => {
@@ -167,7 +188,7 @@ fn step_situation(record: &Record, w: i64) -> Vec<i64> {
 fn near_edge(length: i64) -> i64 {
     match length {
         0..=10 => length,
-        80..=84 | 255..=257 | 1025..=1027 => length,
+        80..=84 | 255..=257 | 1025..=1030 => length,
         _ => -1,
     }
 }
@@ -259,4 +280,69 @@ fn ubx_edges(run: &mut Run) {
     session(run, Setting { mode: 1, max: 65_534, c: 4 }, &[&head]);
     session(run, Setting { mode: 1, max: 65_535, c: 5 }, &[&head]);
     session(run, Setting { mode: 1, max: 65_535, c: 6 }, &[&head]);
+}
+
+/// An RTCM frame with its parity, of which one byte may be changed; n is the payload's length.
+fn frame_with_parity(payload: &[u8], off: [u8; 3]) -> Vec<u8> {
+    let mut frame = Vec::new();
+    put_rtcm_head(&mut frame, payload.len(), 0);
+    frame.extend_from_slice(payload);
+    put_parity(&mut frame, 0, off);
+    frame
+}
+
+/// Frames with right and wrong parity in each mode: in the chunk, on both sides at every cut, with too
+/// small a carry, before and around other frames.
+fn parity_set(run: &mut Run) {
+    let with = |mode, c| Setting { mode, max: 16, c };
+    let right = frame_with_parity(&[0xAA, B5], [0; 3]);
+    let around = frame_with_parity(&T, [0; 3]);
+    let wrong_around = frame_with_parity(&T, [0, 0, 1]);
+    let stray = [&[D3], &T[..], &[0; 360]].concat();
+    for mode in [17, 18, 19] {
+        session(run, with(mode, 23), &[&frame_with_parity(&[], [0; 3])]);
+        session(run, with(mode, 23), &[&right]);
+        session(run, with(mode, 23), &[&[&right[..], &T, &right].concat()]);
+        for at in 0..3 {
+            let mut off = [0; 3];
+            off[at] = 0x80;
+            session(run, with(mode, 23), &[&frame_with_parity(&[0xAA, B5], off)]);
+        }
+        session(run, with(mode, 23), &[&around]);
+        session(run, with(mode, 23), &[&wrong_around]);
+        session(run, with(mode, 23), &[&stray]);
+        session(run, with(mode, 4), &[&[D3], &T]);
+    }
+    for cut in 1..right.len() {
+        let (first, second) = right.split_at(cut);
+        for c in [right.len() - 1, right.len(), right.len() + 1] {
+            session(run, with(18, c), &[first, second]);
+        }
+    }
+    let wrong = frame_with_parity(&[0xAA, B5], [1, 0, 0]);
+    for c in [7, 8] {
+        session(run, with(18, c), &[&wrong[..5], &wrong[5..]]);
+        session(run, with(19, c), &[&wrong[..5], &wrong[5..]]);
+    }
+    // The same frame without parity: its three bytes are noise, or a sync byte.
+    for mode in [2, 3] {
+        session(run, with(mode, 23), &[&[&right[..], &T].concat()]);
+    }
+}
+
+/// An RTCM frame with n = 1,023 and its parity cut after 3: C 1,028 has no room, C 1,029 has.
+fn parity_edge(run: &mut Run) {
+    let mut body = vec![0; 1023];
+    Random::new(1029).fill(&mut body);
+    let frame = frame_with_parity(&body, [0; 3]);
+    for c in [1028, 1029] {
+        let mut state = [0; 24];
+        state[..4].copy_from_slice(&[18, 16, c as u64, 3]);
+        let mut carry = vec![0xEE; c];
+        carry[..3].copy_from_slice(&frame[..3]);
+        run.begin(&state, &carry, &frame[3..]);
+        run.call(Call::Open);
+        run.call(Call::Step);
+        run.call(Call::Close);
+    }
 }

@@ -18,6 +18,7 @@ pub fn records() -> Vec<Record> {
     every_sum(&mut list);
     every_start(&mut list);
     every_view(&mut list);
+    every_mode_with_parity(&mut list);
     list.records
 }
 
@@ -189,4 +190,22 @@ fn every_view(list: &mut Refused) {
     }
     list.add(Call::View { side: 0, start: 0, length: 0 }, &untouched, 0, 0);
     list.add(Call::View { side: 1, start: 0, length: 1 }, &untouched, 9, 0);
+}
+
+/// The modes with parity and the numbers beside them: started, and as the word of a state.
+fn every_mode_with_parity(list: &mut Refused) {
+    let anything = state([9, 8, 7, 6, 5, 4, 3, 2, 1]);
+    for mode in [15, 16, 17, 18, 19, 20, 32, 33, 34, 256 + 17, (1 << 32) + 17, (1 << 63) + 18] {
+        for carry_length in [23, 16_384, 16_385] {
+            list.add(Call::Start { mode, max: 240 }, &anything, carry_length, 0);
+        }
+        for base in [idle(), open()] {
+            let mut forged = base;
+            forged[MODE] = mode;
+            let chunk_length = if base[OPEN] == 1 { 9 } else { 4 };
+            for call in ON_STATES {
+                list.add(call, &forged, 23, chunk_length);
+            }
+        }
+    }
 }

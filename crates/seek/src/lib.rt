@@ -1,0 +1,227 @@
+// The loop that passes what is to be passed in silence, until something is to be said: at one side of the window alone as long
+// as that tells, then at both. Rust: parser.rs, the loops around the heads of the three iterators' `next`.
+ghost use mathlib.Core.Path.{_≡_};
+ghost use mathlib.Core.Bool.{true};
+ghost use mathlib.Core.List.{List, _++_};
+ghost use Prim.Native.Nat.{ℕ, _+_, _≤_};
+ghost use lib.ListN.{length};
+ghost use Rattle.look.specs.declared.Verdict.the-variants.{Wait};
+ghost use Rattle.look.specs.declared.Sight.the-variants.{Say};
+ghost use Rattle.look.specs.Rules.{far, lookUbx, lookRtcm};
+ghost use Rattle.look.specs.Moves.{settled, stepMove};
+ghost use Rattle.seek.specs.Passed.{moveAt, Passed, Stops};
+ghost use Rattle.seek.specs.OneSide.{firstOf, Begins, Tells};
+use look::Kind;
+use look::Sight;
+use look::Verdict;
+use look::Why;
+use window::Mode;
+
+// What one side of the window tells of its front: nothing; bytes to pass; what is said.
+enum Hint {
+    Unsure,
+    Past(Why),
+    Sure(Verdict),
+}
+
+// How many bytes are passed in silence, and what is said there.
+pub struct Stop {
+    pub skip: usize,
+    pub verdict: Verdict,
+}
+
+// The look at what is left of the window after its first k bytes.
+fn look_at(mode: Mode, max: u16, cap: usize, a: &[u8], b: &[u8], k: usize) -> Sight
+    requires { ⌜ k ≤ length (now a) + length (now b) ⌝ }
+    ensures { λ r. ⌜ r ≡ moveAt mode max cap (length (now (a .entry))) (now (a .entry) ++ now (b .entry)) k ⌝ }
+{
+    let i = window::least(k, a.len());
+    let j = k - i;
+    look::look(mode, max, cap, &a[i..], &b[j..])
+}
+
+// How many bytes are passed, by why.
+fn far(why: Why) -> usize
+    ensures { λ r. ⌜ r ≡ far why ⌝ }
+{
+    match why {
+        Why::NoSync => 1,
+        Why::NotPair => 1,
+        Why::OverMax => 2,
+    }
+}
+
+// The first slice that has bytes.
+fn first_of<'a>(a: &'a [u8], b: &'a [u8]) -> &'a [u8]
+    ensures { λ r. ⌜ now r ≡ firstOf (now (a .entry)) (now (b .entry)) ⌝ }
+{
+    if a.len() == 0 { b } else { a }
+}
+
+// Rule 2, where one side has the head. The window has w bytes.
+fn glance_ubx(max: u16, cap: usize, s: &[u8], w: usize) -> Hint
+    requires { ⌜ 6 ≤ length (now s) ⌝ }
+    ensures { λ r. ⌜ ((u : ℕ) (W : List ℕ) → Begins (now (s .entry)) W u w → Tells r (settled cap u W (lookUbx max W))) ⌝ }
+{
+    if s[1] != window::UBX_SYNC_CHAR_2 {
+        return Hint::Past(Why::NotPair);
+    }
+    let m = sum::word(s[4], s[5]);
+    if max < m {
+        return Hint::Past(Why::OverMax);
+    }
+    let n = m as usize;
+    if w < n + 8 {
+        let v = look::lacks(cap, w, look::UBX_SYNC_SIZE, n + look::UBX_CHECKSUM_LEN);
+        return Hint::Sure(v);
+    }
+    if s.len() < n + 8 {
+        return Hint::Unsure;
+    }
+    let end = look::UBX_HEADER_LEN + n;
+    let got = sum::update(sum::new(), &s[look::UBX_SYNC_SIZE..end]);
+    let v = look::judged(s[end], s[end + 1], got, s[2], s[3], n);
+    Hint::Sure(v)
+}
+
+// Rule 3, where one side has the head. A whole frame that is read with parity is left to the look at both sides.
+fn glance_rtcm(parity: bool, cap: usize, s: &[u8], w: usize) -> Hint
+    requires { ⌜ 3 ≤ length (now s) ⌝ }
+    ensures { λ r. ⌜ ((u : ℕ) (W : List ℕ) → Begins (now (s .entry)) W u w → Tells r (settled cap u W (lookRtcm parity W))) ⌝ }
+{
+    let n = look::rtcm_length(s[1], s[2]);
+    let size = n + look::around(parity);
+    if w < size {
+        let v = look::lacks(cap, w, 1, size);
+        return Hint::Sure(v);
+    }
+    if parity {
+        return Hint::Unsure;
+    }
+    if s.len() < size {
+        return Hint::Unsure;
+    }
+    let kind = Kind::Rtcm { n, parity: false };
+    Hint::Sure(Verdict::Hand(kind))
+}
+
+// Whether a window of w bytes, all of which fit the carry, is shorter than the frame whose head one side has: rule 2, and rule 3.
+fn is_short_ubx(max: u16, s: &[u8], w: usize) -> bool
+    requires { ⌜ 6 ≤ length (now s) ⌝ }
+    ensures { λ r. ⌜ (r ≡ true → (cap u : ℕ) (W : List ℕ) → w ≤ cap → Begins (now (s .entry)) W u w → settled cap u W (lookUbx max W) ≡ Say (Wait 0)) ⌝ }
+{
+    if s[1] != window::UBX_SYNC_CHAR_2 {
+        return false;
+    }
+    let n = sum::word(s[4], s[5]);
+    if max < n {
+        return false;
+    }
+    w < n as usize + 8
+}
+
+fn is_short_rtcm(parity: bool, s: &[u8], w: usize) -> bool
+    requires { ⌜ 3 ≤ length (now s) ⌝ }
+    ensures { λ r. ⌜ (r ≡ true → (cap u : ℕ) (W : List ℕ) → w ≤ cap → Begins (now (s .entry)) W u w → settled cap u W (lookRtcm parity W) ≡ Say (Wait 0)) ⌝ }
+{
+    let n = look::rtcm_length(s[1], s[2]);
+    w < n + look::around(parity)
+}
+
+// True only where a window of w bytes is shorter than the frame at its front, which is then waited for; false tells nothing. One
+// side has that frame's head. Tried first, since between a frame's first bytes and its last every step finds it so.
+pub fn is_short(mode: Mode, max: u16, cap: usize, s: &[u8], w: usize) -> bool
+    requires { ⌜ 6 ≤ length (now s) ⌝ }
+    ensures { λ r. ⌜ (r ≡ true → (u : ℕ) (W : List ℕ) → Begins (now (s .entry)) W u w → stepMove mode max cap u W ≡ Say (Wait 0)) ⌝ }
+{
+    if cap < w {
+        return false;
+    }
+    let x = s[0];
+    if !window::is_sync(mode, x) {
+        return false;
+    }
+    if x == window::UBX_SYNC_CHAR_1 {
+        return is_short_ubx(max, s, w);
+    }
+    if x == window::RTCM_SYNC_CHAR {
+        return is_short_rtcm(window::has_parity(mode), s, w);
+    }
+    false
+}
+
+// What one side alone tells of the front of a window of w bytes.
+fn glance(mode: Mode, max: u16, cap: usize, s: &[u8], w: usize) -> Hint
+    requires { ⌜ 6 ≤ length (now s) ⌝ }
+    ensures { λ r. ⌜ ((u : ℕ) (W : List ℕ) → Begins (now (s .entry)) W u w → Tells r (stepMove mode max cap u W)) ⌝ }
+{
+    let x = s[0];
+    if !window::is_sync(mode, x) {
+        return Hint::Past(Why::NoSync);
+    }
+    if x == window::UBX_SYNC_CHAR_1 {
+        return glance_ubx(max, cap, s, w);
+    }
+    if x == window::RTCM_SYNC_CHAR {
+        return glance_rtcm(window::has_parity(mode), cap, s, w);
+    }
+    Hint::Unsure
+}
+
+// Looks, and passes what is to be passed, until something is to be said: at one side alone as long as that tells, then at both.
+pub fn seek<'a>(mode: Mode, max: u16, cap: usize, a: &'a [u8], b: &'a [u8]) -> Stop
+    ensures { λ r. ⌜ Stops mode max cap (length (now (a .entry))) (now (a .entry) ++ now (b .entry)) (r .skip) (r .verdict) ⌝ }
+{
+    let w = a.len() + b.len();
+    let s = first_of(a, b);
+    let mut skip = 0;
+    while skip < s.len() {
+        if s.len() - skip < look::UBX_HEADER_LEN {
+            break;
+        }
+        let told = glance(mode, max, cap, &s[skip..], w - skip);
+        match told {
+            Hint::Past(why) => {
+                skip = window::find_sync(mode, a, b, skip + far(why));
+            }
+            Hint::Sure(v) => {
+                return Stop { skip, verdict: v };
+            }
+            Hint::Unsure => {
+                break;
+            }
+        }
+    }
+    seek_on(mode, max, cap, a, b, skip)
+}
+
+// Looks at both sides, from where `from` bytes are passed. The bytes up to the next sync byte go at once.
+fn seek_on(mode: Mode, max: u16, cap: usize, a: &[u8], b: &[u8], from: usize) -> Stop
+    requires { ⌜ (from ≤ length (now a) + length (now b)) × Passed mode max cap (length (now a)) (now a ++ now b) from ⌝ }
+    ensures { λ r. ⌜ Stops mode max cap (length (now (a .entry))) (now (a .entry) ++ now (b .entry)) (r .skip) (r .verdict) ⌝ }
+{
+    let w = a.len() + b.len();
+    let mut skip = from;
+    let mut verdict = Verdict::Wait(0);
+    while skip < w {
+        let sight = look_at(mode, max, cap, a, b, skip);
+        match sight {
+            Sight::Pass(why) => match why {
+                Why::NoSync => {
+                    skip = window::find_sync(mode, a, b, skip + 1);
+                }
+                Why::NotPair => {
+                    skip += 1;
+                }
+                Why::OverMax => {
+                    skip += 2;
+                }
+            },
+            Sight::Say(v) => {
+                verdict = v;
+                break;
+            }
+        }
+    }
+    Stop { skip, verdict }
+}
