@@ -9,7 +9,7 @@ use lib.ListN.{length, drop, getD, drop-of-length-le}
 use lib.Seq.{drop-cons}
 use Rattle.window.specs.declared.Mode.the-variants.{One, Two, Three}
 use Rattle.window.specs.Pick.{pick}
-use Rattle.lines.specs.Text.{ascii}
+use Rattle.text.specs.Text.{ascii}
 use Rattle.frames.specs.declared.Number.{Number, the-variants.{Is, No}}
 use Rattle.frames.specs.declared.Choice.the-variants.{Of, None}
 use Rattle.frames.specs.Words.{nextOf, digitsTo, numberOf, modeOf}

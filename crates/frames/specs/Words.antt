@@ -5,7 +5,7 @@ use mathlib.Core.List.{List, [], _∷_}
 use lib.Dec.{ltb, eqb}
 use Rattle.window.specs.declared.Mode.the-variants.{One, Two, Three}
 use Rattle.window.specs.Pick.{pick}
-use Rattle.lines.specs.Text.{ascii}
+use Rattle.text.specs.Text.{ascii}
 use Rattle.frames.specs.declared.Number.{Number, the-variants.{Is, No}}
 use Rattle.frames.specs.declared.Choice.{Choice, the-variants.{Of, None}}
 

@@ -11,9 +11,10 @@ use Rattle.taking.specs.declared.Side.the-variants.{Carry}
 use Rattle.taking.specs.declared.Place.{Place}
 use Rattle.framer.specs.declared.Answer.the-variants.{UbxFrame, RtcmFrame, Sentence, WrongSum, NoRoom, NeedMore, Refused, WrongParity}
 use Rattle.framer.specs.Bench.{sameList}
-use Rattle.lines.specs.Text.{ascii}
-use Rattle.lines.specs.Digits.{digitsIn, decimal, hex}
-use Rattle.lines.specs.Lines.{header, line, totals}
+use Rattle.text.specs.Text.{ascii}
+use Rattle.text.specs.Digits.{digitsIn, decimal, hex}
+use Rattle.ends.specs.Ends.{header, totals}
+use Rattle.lines.specs.Lines.{line}
 
 record Row : Type 0 where
   bytes : List ℕ

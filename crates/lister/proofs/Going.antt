@@ -8,9 +8,9 @@ use Rattle.state.specs.declared.State.{State}
 use Rattle.state.specs.declared.Leave.{Leave, the-variants.{Granted, Denied}}
 use Rattle.framer.specs.declared.Answer.{Answer, the-variants.{UbxFrame, RtcmFrame, Sentence, WrongSum, NoRoom, NeedMore, Refused, WrongParity}}
 use Rattle.framer.specs.Step.{StepOut, step}
-use Rattle.lines.specs.Text.{Puts}
+use Rattle.text.specs.Text.{Puts}
 use Rattle.lines.specs.Lines.{line}
-use Rattle.lines.proofs.Laws.{behind, nothing, fits}
+use Rattle.text.proofs.Laws.{behind, nothing, fits}
 use Rattle.lister.specs.declared.Listing.{Listing}
 use Rattle.lister.specs.declared.Turn.{Turn}
 use Rattle.lister.specs.Listing.{onward, Tells, Lines, noLine, nextLine, isFull, isWhole, Fills}

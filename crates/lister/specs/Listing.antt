@@ -10,7 +10,7 @@ use Rattle.framer.specs.declared.Closed.{Closed}
 use Rattle.framer.specs.Operations.{opening, closing}
 use Rattle.framer.specs.Step.{step}
 use Rattle.framer.specs.Reached.{isNeedMore, isRefused}
-use Rattle.lines.specs.Text.{Puts}
+use Rattle.text.specs.Text.{Puts}
 use Rattle.lines.specs.Lines.{line}
 use Rattle.lister.specs.declared.Listing.{Listing}
 use Rattle.lister.specs.declared.Turn.{Turn}

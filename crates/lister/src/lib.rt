@@ -180,7 +180,7 @@ fn finish(l: Listing, out: &mut [u8])
     requires { ⌜ (l .waiting ≤ length (now out)) × (84 ≤ length (now out)) ⌝ }
 {
     let last = with_room(l, out);
-    let waiting = lines::totals(out, last.waiting, last.used, last.kept, last.lost);
+    let waiting = ends::totals(out, last.waiting, last.used, last.kept, last.lost);
     let whole = Listing { waiting, ..last };
     flush(whole, out);
 }
@@ -201,7 +201,7 @@ pub fn list(
 {
     let opened = framer::start(carry, mode, max);
     let state = opened.state;
-    let waiting = lines::header(out, 0, mode, max, carry.len());
+    let waiting = ends::header(out, 0, mode, max, carry.len());
     let listing = Listing {
         state,
         used: 0,

@@ -30,7 +30,7 @@ fn say_leave(leave: Leave) {
 // A byte in hex.
 fn say_byte(x: u8) {
     let mut text = [b' '; 3];
-    lines::hex(&mut text, 1, 2, x as u32);
+    text::hex(&mut text, 1, 2, x as u32);
     say(&text);
 }
 
@@ -46,7 +46,7 @@ fn say_bytes(bytes: &[u8]) {
 // The first line.
 fn say_header(mode: Mode, cap: usize) {
     let mut out = [0u8; LONGEST];
-    let n = lines::header(&mut out, 0, mode, MAX, cap);
+    let n = ends::header(&mut out, 0, mode, MAX, cap);
     say_first(&out, n);
 }
 
@@ -64,7 +64,7 @@ fn say_step(s: State, carry: &mut [u8], chunk: &[u8]) -> State {
 // The last line.
 fn say_totals(used: usize, kept: usize, lost: usize) {
     let mut out = [0u8; LONGEST];
-    let n = lines::totals(&mut out, 0, used as u64, kept as u64, lost as u64);
+    let n = ends::totals(&mut out, 0, used as u64, kept as u64, lost as u64);
     say_first(&out, n);
 }
 

@@ -1,8 +1,8 @@
 -- The lines of `stamps`: one for each frame of class 01 and id 21, and the totals. Numbers are decimal.
 use Prim.Native.Nat.{ℕ}
 use mathlib.Core.List.{List, [], _++_}
-use Rattle.lines.specs.Text.{ascii}
-use Rattle.lines.specs.Lines.{labelled, sized, here}
+use Rattle.text.specs.Text.{ascii}
+use Rattle.text.specs.Labels.{labelled, sized, here}
 use Rattle.stamp.specs.declared.Fault.{Fault, the-variants.{NotThisMessage, NotValid, Field}}
 use Rattle.stamp.specs.declared.Reading.{Reading, the-variants.{Stamp, BackBy, Refused}}
 use Rattle.stamp_lines.specs.declared.Note.{Note, the-variants.{Time, Other, Sum, Passed, End}}

@@ -2,7 +2,7 @@
 ghost use mathlib.Core.Path.{_≡_};
 ghost use Prim.Native.Nat.{_+_, _≤_};
 ghost use lib.ListN.{length};
-ghost use Rattle.lines.specs.Text.{Puts};
+ghost use Rattle.text.specs.Text.{Puts};
 ghost use Rattle.stamp_lines.specs.Lines.{refused, said, line, tallies, totals};
 ghost use Rattle.stamp_lines.specs.Notes.{frame, noted, goesOn, oneMore, byReading, tallied};
 use framer::Answer;
@@ -40,9 +40,9 @@ fn refused(out: &mut [u8], at: usize, fault: Fault) -> usize
     ensures { λ r. ⌜ Puts (refused fault) (now (out .entry)) at (now (out .exit)) r ⌝ }
 {
     match fault {
-        Fault::NotThisMessage => lines::text(out, at, b" refused not this message\n"),
-        Fault::NotValid => lines::text(out, at, b" refused not valid\n"),
-        Fault::Field => lines::text(out, at, b" refused field\n"),
+        Fault::NotThisMessage => text::text(out, at, b" refused not this message\n"),
+        Fault::NotValid => text::text(out, at, b" refused not valid\n"),
+        Fault::Field => text::text(out, at, b" refused field\n"),
     }
 }
 
@@ -52,8 +52,8 @@ fn said(out: &mut [u8], at: usize, reading: Reading) -> usize
     ensures { λ r. ⌜ Puts (said reading) (now (out .entry)) at (now (out .exit)) r ⌝ }
 {
     match reading {
-        Reading::Stamp(t) => lines::sized(out, at, b" stamp ", t),
-        Reading::BackBy(d) => lines::sized(out, at, b" back by ", d),
+        Reading::Stamp(t) => text::sized(out, at, b" stamp ", t),
+        Reading::BackBy(d) => text::sized(out, at, b" back by ", d),
         Reading::Refused(fault) => refused(out, at, fault),
     }
 }
@@ -65,7 +65,7 @@ pub fn line(out: &mut [u8], at: usize, before: u64, note: Note) -> usize
 {
     match note {
         Note::Time { at: p, reading } => {
-            let next = lines::here(out, at, before, p);
+            let next = text::here(out, at, before, p);
             said(out, next, reading)
         }
         Note::Other => at,
@@ -81,11 +81,11 @@ fn tallies(out: &mut [u8], at: usize, t: Tally) -> usize
     ensures { λ r. ⌜ Puts (tallies t) (now (out .entry)) at (now (out .exit)) r ⌝ }
     ensures { λ r. ⌜ r ≤ at + 139 ⌝ }
 {
-    let a = lines::labelled(out, at, b"end stamps ", t.stamps);
-    let b = lines::labelled(out, a, b" back ", t.back);
-    let c = lines::labelled(out, b, b" refused ", t.refused);
-    let d = lines::labelled(out, c, b" other ", t.other);
-    lines::labelled(out, d, b" sums ", t.sums)
+    let a = text::labelled(out, at, b"end stamps ", t.stamps);
+    let b = text::labelled(out, a, b" back ", t.back);
+    let c = text::labelled(out, b, b" refused ", t.refused);
+    let d = text::labelled(out, c, b" other ", t.other);
+    text::labelled(out, d, b" sums ", t.sums)
 }
 
 // The last line: what was counted; used and lost of all closes, kept of the last one.
@@ -94,9 +94,9 @@ pub fn totals(out: &mut [u8], at: usize, t: Tally, used: u64, kept: u64, lost: u
     ensures { λ r. ⌜ Puts (totals t used kept lost) (now (out .entry)) at (now (out .exit)) r ⌝ }
 {
     let a = tallies(out, at, t);
-    let b = lines::labelled(out, a, b" used ", used);
-    let c = lines::labelled(out, b, b" kept ", kept);
-    lines::sized(out, c, b" lost ", lost)
+    let b = text::labelled(out, a, b" used ", used);
+    let c = text::labelled(out, b, b" kept ", kept);
+    text::sized(out, c, b" lost ", lost)
 }
 
 // A UBX frame: a time frame by its class and id, whatever its length. A step tells the reading of every one.

@@ -5,7 +5,7 @@ use Prim.Native.Nat.{ℕ, _≤_}
 use native.Mathlib.Omega.{arith}
 use mathlib.Core.List.{List}
 use lib.ListN.{length}
-use Rattle.lines.proofs.Laws.{fits}
+use Rattle.text.proofs.Laws.{fits}
 use Rattle.lister.proofs.Laws.{Uses}
 use Rattle.stamp_lines.specs.Notes.{goesOn}
 use Rattle.stamper.specs.declared.Stamping.{Stamping}

@@ -7,7 +7,7 @@ use lib.ListN.{length}
 use Rattle.state.specs.declared.State.{State}
 use Rattle.framer.specs.declared.Closed.{Closed}
 use Rattle.framer.specs.Operations.{opening, closing}
-use Rattle.lines.specs.Text.{Puts}
+use Rattle.text.specs.Text.{Puts}
 use Rattle.stamp.specs.declared.Clock.{Clock}
 use Rattle.stamp.specs.Step.{TimedOut, step}
 use Rattle.stamp_lines.specs.declared.Note.{Note}

@@ -1,7 +1,7 @@
 -- `lines::line` meets its contract: the position, and behind it what the answer's case says.
 use native.Mathlib.Omega.{arith}
 use Rattle.lines.specs.Lines.{line}
-use Rattle.lines.proofs.Laws.{behind, nothing}
+use Rattle.text.proofs.Laws.{behind, nothing}
 use borrow.Author.Needs.{needs}
 use Rattle.lines.proofs.line.Statement.{statement}
 use Rattle.lines.proofs.line.Tie as tie

@@ -1,6 +1,6 @@
 -- `lister::finish` is safe: the last line has room.
 use native.Mathlib.Omega.{arith}
-use Rattle.lines.proofs.Laws.{fits}
+use Rattle.text.proofs.Laws.{fits}
 use borrow.Author.Needs.{needs}
 use Rattle.lister.proofs.finish.Statement.{statement}
 use Rattle.lister.proofs.finish.Tie as tie

@@ -1,6 +1,6 @@
 -- `stamp_lines::line` meets its contract: the position, and behind it what the frame was read to.
 use native.Mathlib.Omega.{arith}
-use Rattle.lines.proofs.Laws.{behind, nothing}
+use Rattle.text.proofs.Laws.{behind, nothing}
 use borrow.Author.Needs.{needs}
 use Rattle.stamp_lines.proofs.line.Statement.{statement}
 use Rattle.stamp_lines.proofs.line.Tie as tie

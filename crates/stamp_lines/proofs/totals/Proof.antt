@@ -2,7 +2,7 @@
 use Prim.Native.Nat.{_≤_}
 use native.Mathlib.Omega.{arith}
 use lib.ListN.{length}
-use Rattle.lines.proofs.Laws.{behind}
+use Rattle.text.proofs.Laws.{behind}
 use borrow.Author.Needs.{needs}
 use Rattle.stamp_lines.proofs.totals.Statement.{statement}
 use Rattle.stamp_lines.proofs.totals.Tie as tie
