@@ -1,42 +1,20 @@
 // Replays the two lists of calls that oracle/vectors writes, through the five C functions, and compares all that comes
 // back: out words, the state's 24 words, every byte of the carry. Says how many calls it compared, or the first that
 // differs and stops there. oracle/README.md has the form of the lists.
-mod call;
-mod compare;
-mod record;
 mod report;
 
 ghost use mathlib.Core.Path.{_≡_};
 ghost use lib.ListN.{length};
-ghost use Rattle.replay.specs.Made.{Replayed};
-use call::Call;
-use compare::Outcome;
-use record::List;
+use calls::Call;
+use records::List;
+use replaying::Turn;
 use report::Run;
-use report::Turn;
 
 // No carry and no chunk of a record is longer.
 const LONGEST: usize = 16385;
 
 // Every byte of the carries and chunks of refusals.bin.
 const FILLER: u8 = 0x55;
-
-// Makes a record's call and compares.
-fn replay(call: Call, words: &[u64; 34], carry: &mut [u8], chunk: &[u8], recorded: &[u8]) -> Turn
-    requires { ⌜ length (now carry) ≡ length (now recorded) ⌝ }
-    ensures { λ r. ⌜ Replayed r call (now (words .entry)) (now (carry .entry)) (now (chunk .entry)) (now (recorded .entry)) ⌝ }
-{
-    let mut state = record::state_before(words);
-    let out = call::make(call, &mut state, carry, chunk);
-    let in_out = compare::out(&out, &record::out(words));
-    let in_state = compare::state(&state, &record::state_after(words));
-    let in_carry = compare::carry(carry, recorded);
-    let outcome = compare::first(in_out, compare::first(in_state, in_carry));
-    match outcome {
-        Outcome::Same => Turn::Same(call),
-        Outcome::Differs(difference) => Turn::Differs(call, difference),
-    }
-}
 
 // Reads a list's next bytes into a carry or chunk: whether there are so many. Those of refusals.bin are not in the file:
 // they are in memory from the beginning and stay there.
@@ -49,7 +27,7 @@ fn filled(fd: i32, list: List, to: &mut [u8]) -> bool {
 
 // The same for the carry after, which the list has where a byte of the carry changes.
 fn filled_after(fd: i32, list: List, words: &[u64; 34], to: &mut [u8]) -> bool {
-    if record::changes(words) {
+    if records::changes(words) {
         filled(fd, list, to)
     } else {
         true
@@ -67,7 +45,7 @@ fn replay_rest(
 ) -> Turn
     requires { ⌜ length (now carry) ≡ length (now recorded) ⌝ }
 {
-    let call = call::of(words);
+    let call = calls::of(words);
     if let Call::NoCall = call {
         return Turn::Bad;
     }
@@ -81,7 +59,7 @@ fn replay_rest(
     if !filled_after(fd, list, words, recorded) {
         return Turn::Short;
     }
-    replay(call, words, carry, chunk, recorded)
+    replaying::replay(call, words, carry, chunk, recorded)
 }
 
 // Replays the record of a head, in memory for a carry, a chunk and the carry that is recorded.
@@ -104,7 +82,7 @@ fn replay_record(
     if chunk.len() < k {
         return Turn::Bad;
     }
-    if !record::agrees(list, words) {
+    if !records::agrees(list, words) {
         return Turn::Bad;
     }
     replay_rest(
@@ -126,7 +104,7 @@ fn replay_next(
     recorded: &mut [u8],
 ) -> Turn {
     let mut head = [0u8; 256];
-    let size = record::head_size(list);
+    let size = records::head_size(list);
     let got = io::read_full(fd, &mut head[..size]);
     if got == 0 {
         return Turn::End;
@@ -134,7 +112,7 @@ fn replay_next(
     if got < size {
         return Turn::Short;
     }
-    let words = record::words(list, &head);
+    let words = records::words(list, &head);
     replay_record(fd, list, &words, carry, chunk, recorded)
 }
 

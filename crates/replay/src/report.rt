@@ -1,18 +1,9 @@
 // What is counted, and what is printed.
-use crate::call::Call;
-use crate::compare::Difference;
-use crate::compare::Part;
-use crate::record::plus;
-
-// What came of a list's next record: its call did as recorded, or not; the list has no more, or not a whole one, or
-// bytes that are no record's.
-pub enum Turn {
-    Same(Call),
-    Differs(Call, Difference),
-    End,
-    Short,
-    Bad,
-}
+use calls::Call;
+use compare::Difference;
+use compare::Part;
+use records::plus;
+use replaying::Turn;
 
 // The calls that did as recorded, by operation.
 pub struct Tally {

@@ -1,3 +1,0 @@
--- What the contracts of the replay cite.
-pub mod Compare
-pub mod Made
