@@ -6,10 +6,11 @@ use Prim.Native.Nat.{ℕ, zero, suc, _+_, _-_, _≤_, _<_}
 use native.Mathlib.Omega.{arith}
 use lib.ListN.{drop}
 use lib.Seq.{drop-drop}
+use Rattle.claim.specs.declared.Verdict.{Verdict, the-variants.{Wait, Tell, Hand}}
+use Rattle.claim.specs.Sizes.{skip, size}
+use Rattle.claim.specs.Verdicts.{cost}
 use Rattle.look.specs.declared.Sight.{Sight, the-variants.{Pass, Say}}
-use Rattle.look.specs.declared.Verdict.{Verdict, the-variants.{Wait, Tell, Hand}}
-use Rattle.look.specs.Rules.{skip, size, far}
-use Rattle.look.specs.Moves.{cost}
+use Rattle.look.specs.Rules.{far}
 use Rattle.look.specs.Within.{whole, Says, Moves}
 use Rattle.look.proofs.Within.{move-in}
 use Rattle.state.specs.declared.State.{State}

@@ -4,9 +4,9 @@ use mathlib.Core.List.{List}
 use Prim.Native.Nat.{ℕ, _≤_}
 use native.Mathlib.Omega.{arith}
 use lib.ListN.{length}
-use Rattle.look.specs.declared.Kind.{Kind}
-use Rattle.look.specs.declared.Verdict.the-variants.{Hand}
-use Rattle.look.specs.Rules.{skip, size}
+use Rattle.claim.specs.declared.Kind.{Kind}
+use Rattle.claim.specs.declared.Verdict.the-variants.{Hand}
+use Rattle.claim.specs.Sizes.{skip, size}
 use Rattle.look.specs.Within.{Says}
 use Rattle.state.specs.declared.State.{State}
 use Rattle.state.specs.Words.{leftLen, width, drain}

@@ -11,7 +11,7 @@ use lib.Seq.{getD-drop, getD-take}
 use Rattle.carry.proofs.Laws.{drop-take}
 use Rattle.window.specs.Sync.{isSync, firstSync}
 use Rattle.window.proofs.Laws.{from, joined-left, first-here}
-use Rattle.look.specs.declared.Verdict.{Verdict}
+use Rattle.claim.specs.declared.Verdict.{Verdict}
 use Rattle.seek.specs.Passed.{Stops}
 use Rattle.seek.specs.OneSide.{Begins}
 use Rattle.state.specs.declared.State.{State}

@@ -3,8 +3,8 @@ use mathlib.Core.Path.{_≡_, refl, sym, ap, _∙_}
 use mathlib.Core.List.{List}
 use Prim.Native.Nat.{ℕ, zero, suc, _-_, _≤_, _<_}
 use native.Mathlib.Omega.{arith}
+use Rattle.claim.specs.declared.Verdict.{Verdict, the-variants.{Wait}}
 use Rattle.look.specs.declared.Sight.{Sight, the-variants.{Pass, Say}}
-use Rattle.look.specs.declared.Verdict.{Verdict, the-variants.{Wait}}
 use Rattle.look.specs.Rules.{far}
 use Rattle.look.specs.Within.{Says, Moves}
 use Rattle.seek.specs.Passed.{moveAt, Passed, start, turn, Stops}

@@ -2,12 +2,14 @@
 use Prim.Native.Nat.{ℕ, zero, suc}
 use mathlib.Core.List.{List}
 use lib.ListN.{length}
-use Rattle.look.specs.declared.Kind.{Kind, the-variants.{Ubx, Rtcm, Sentence as KindSentence}}
-use Rattle.look.specs.declared.Tale.{Tale, the-variants.{WrongSum as TaleWrongSum, WrongParity as TaleWrongParity, NoRoom as TaleNoRoom}}
-use Rattle.look.specs.declared.Verdict.{Verdict, the-variants.{Wait, Tell, Hand}}
+use Rattle.claim.specs.declared.Kind.{Kind, the-variants.{Ubx, Rtcm, Sentence as KindSentence}}
+use Rattle.claim.specs.declared.Tale.{Tale, the-variants.{WrongSum as TaleWrongSum, WrongParity as TaleWrongParity, NoRoom as TaleNoRoom}}
+use Rattle.claim.specs.declared.Verdict.{Verdict, the-variants.{Wait, Tell, Hand}}
+use Rattle.claim.specs.Sizes.{skip, size}
+use Rattle.claim.specs.Verdicts.{cost}
 use Rattle.look.specs.declared.Sight.{Sight, the-variants.{Pass, Say}}
-use Rattle.look.specs.Rules.{skip, size, far}
-use Rattle.look.specs.Moves.{cost, stepMove}
+use Rattle.look.specs.Rules.{far}
+use Rattle.look.specs.Moves.{stepMove}
 use Rattle.state.specs.declared.State.{State}
 use Rattle.state.specs.declared.Leave.{Leave, the-variants.{Granted, Denied}}
 use Rattle.state.specs.Words.{leftLen, window, width, drain}

@@ -10,9 +10,9 @@ ghost use Rattle.state.specs.Ready.{Ready};
 ghost use Rattle.framer.specs.Operations.{start, noted, openOn, opening, closeOn, closing};
 ghost use Rattle.framer.specs.Step.{frameAt, taleAt, say, stepFrom, step};
 ghost use Rattle.framer.specs.Promises.{Opens, Steps, Closes};
-use look::Kind;
-use look::Tale;
-use look::Verdict;
+use claim::Kind;
+use claim::Tale;
+use claim::Verdict;
 use state::LIMIT;
 use state::Leave;
 use state::Refusal;
@@ -199,13 +199,13 @@ fn said(s: State, carry: &mut [u8], chunk: &[u8], skip: usize, v: Verdict) -> St
             }
         }
         Verdict::Tell(tale) => {
-            let state = state::drained(s, skip + look::cost(tale));
+            let state = state::drained(s, skip + claim::cost(tale));
             let answer = tale_at(tale, at);
             Stepped { answer, state }
         }
         Verdict::Hand(kind) => {
-            let here = state::drained(s, skip + look::skip(kind));
-            let taken = taking::take(here, carry, chunk, look::size(kind));
+            let here = state::drained(s, skip + claim::skip(kind));
+            let taken = taking::take(here, carry, chunk, claim::size(kind));
             let place = taken.place;
             let state = taken.state;
             let answer = frame_at(kind, at, place);
@@ -225,7 +225,7 @@ fn step_well(s: State, carry: &mut [u8], chunk: &[u8]) -> Stepped
     let live = s.live;
     let part = s.part;
     let left = live - off;
-    if look::UBX_HEADER_LEN <= left {
+    if claim::UBX_HEADER_LEN <= left {
         if seek::is_short(
             mode,
             s.max,

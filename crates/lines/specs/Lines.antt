@@ -4,7 +4,7 @@ use mathlib.Core.Bool.{Bool}
 use mathlib.Core.List.{List, [], _++_}
 use Rattle.window.specs.declared.Mode.{Mode}
 use Rattle.window.specs.Sync.{hasParity}
-use Rattle.look.specs.Rules.{around}
+use Rattle.claim.specs.Sizes.{around}
 use Rattle.framer.specs.declared.Answer.{Answer, the-variants.{UbxFrame, RtcmFrame, Sentence, WrongSum, NoRoom, NeedMore, Refused, WrongParity}}
 use Rattle.text.specs.Labels.{sized, here}
 use Rattle.line_parts.specs.Parts.{ubx, wrong, wrongParity}

@@ -34,7 +34,7 @@ pub fn line(out: &mut [u8], at: usize, named: bool, mode: Mode, before: u64, sai
             line_parts::ubx(out, next, class, id, less(place.len, 2))
         }
         Answer::RtcmFrame { at: p, place } => {
-            let n = less(place.len, look::around(window::has_parity(mode)));
+            let n = less(place.len, claim::around(window::has_parity(mode)));
             line_parts::placed(out, at, before, p, b" rtcm len ", n)
         }
         Answer::Sentence { at: p, place } => {

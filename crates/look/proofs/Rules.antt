@@ -17,12 +17,14 @@ use Rattle.window.specs.Pick.{pick}
 use Rattle.window.proofs.Pick.{pick-true}
 use Rattle.window.specs.Sync.{isSync, firstSync}
 use Rattle.window.specs.EndMark.{endMark}
-use Rattle.look.specs.declared.Kind.{Kind, the-variants.{Ubx, Rtcm, Sentence}}
+use Rattle.claim.specs.declared.Kind.{Kind, the-variants.{Ubx, Rtcm, Sentence}}
+use Rattle.claim.specs.declared.Verdict.the-variants.{Wait, Hand}
+use Rattle.claim.specs.Sizes.{skip, size, back}
+use Rattle.claim.specs.Verdicts.{canHand, judgeSum, judgeParity, lacks}
 use Rattle.look.specs.declared.Why.the-variants.{NoSync, NotPair, OverMax}
-use Rattle.look.specs.declared.Verdict.the-variants.{Wait, Hand}
 use Rattle.look.specs.declared.Sight.the-variants.{Pass, Say}
-use Rattle.look.specs.Rules.{skip, size, back, need, pass, claim, lookUbx, lookRtcm, endAt, lookNmea, atSync, look}
-use Rattle.look.specs.Moves.{canHand, judgeSum, judgeParity, judge, lacks, settled, stepMove}
+use Rattle.look.specs.Rules.{need, pass, claim, lookUbx, lookRtcm, endAt, lookNmea, atSync, look}
+use Rattle.look.specs.Moves.{judge, settled, stepMove}
 
 -- ---- what becomes of a claim, for every kind: the window is two lists joined, of which the carry has the first
 

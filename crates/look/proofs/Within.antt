@@ -12,9 +12,11 @@ use Rattle.window.specs.declared.Found.{Found, the-variants.{At, Nothing}}
 use Rattle.window.proofs.Pick.{by-pick}
 use Rattle.window.specs.Sync.{hasParity}
 use Rattle.window.specs.EndMark.{endMark}
-use Rattle.look.specs.declared.Kind.{Kind, the-variants.{Ubx, Rtcm, Sentence}}
-use Rattle.look.specs.Rules.{skip, around, size, back, far, Look, need, pass, claim, lookUbx, lookRtcm, endAt, lookNmea, look}
-use Rattle.look.specs.Moves.{canHand, judge, lacks, settled, stepMove}
+use Rattle.claim.specs.declared.Kind.{Kind, the-variants.{Ubx, Rtcm, Sentence}}
+use Rattle.claim.specs.Sizes.{skip, around, size, back}
+use Rattle.claim.specs.Verdicts.{canHand, lacks}
+use Rattle.look.specs.Rules.{far, Look, need, pass, claim, lookUbx, lookRtcm, endAt, lookNmea, look}
+use Rattle.look.specs.Moves.{judge, settled, stepMove}
 use Rattle.look.specs.Within.{whole, Says, Moves}
 
 -- ---- a look

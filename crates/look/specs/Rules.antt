@@ -1,6 +1,6 @@
 -- 01, "One step", rules 1 to 4, and 02, Ticket 4: what stands at the front of a window. It goes by the window's bytes alone.
 use Prim.Native.Nat.{ℕ, _+_, _*_, _%_}
-use mathlib.Core.Bool.{Bool, true, false, not}
+use mathlib.Core.Bool.{Bool, not}
 use mathlib.Core.List.{List, [], _∷_}
 use lib.ListN.{length, getD, drop}
 use lib.Dec.{ltb, eqb}
@@ -10,29 +10,8 @@ use Rattle.window.specs.declared.Found.{Found, the-variants.{At, Nothing}}
 use Rattle.window.specs.Pick.{pick}
 use Rattle.window.specs.Sync.{hasParity, isSync, firstSync}
 use Rattle.window.specs.EndMark.{endMark}
-use Rattle.look.specs.declared.Kind.{Kind, the-variants.{Ubx, Rtcm, Sentence}}
+use Rattle.claim.specs.declared.Kind.{Kind, the-variants.{Ubx, Rtcm, Sentence}}
 use Rattle.look.specs.declared.Why.{Why, the-variants.{NoSync, NotPair, OverMax}}
-
--- what an RTCM frame has around its message: the three bytes of its head and, with parity, three behind
-abbrev pub around : Bool → ℕ
-around true = 6
-around false = 3
-
--- what is drained before a frame's body, the body's length, and what is drained where there is no room for it
-abbrev pub skip : Kind → ℕ
-skip (Ubx class id n) = 6
-skip (Rtcm n parity) = 0
-skip (Sentence i) = 0
-
-abbrev pub size : Kind → ℕ
-size (Ubx class id n) = n + 2
-size (Rtcm n parity) = n + around parity
-size (Sentence i) = i + 2
-
-abbrev pub back : Kind → ℕ
-back (Ubx class id n) = 2
-back (Rtcm n parity) = 1
-back (Sentence i) = 1
 
 -- how many bytes are passed, by why: the front byte is no sync byte; the second byte is not 62; n is over MAX
 abbrev pub far : Why → ℕ

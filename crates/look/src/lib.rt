@@ -1,72 +1,24 @@
-// What stands at the window's front, and what a step says of it. Rust: parser.rs, the heads of the three iterators' `next`
-// and `extract_packet_ubx`, `extract_packet_rtcm`, `extract_packet_nmea`; parser/buffer.rs, `can_drain_and_take`.
+// What stands at the window's front: the four rules. Rust: parser.rs, the heads of the three iterators' `next` and
+// `extract_packet_ubx`, `extract_packet_rtcm`, `extract_packet_nmea`.
 ghost use mathlib.Core.Path.{_≡_};
 ghost use mathlib.Core.Bool.{true};
 ghost use mathlib.Core.List.{_++_};
-ghost use Prim.Native.Nat.{_+_, _*_, _%_, _≤_, _<_, _^_};
+ghost use Prim.Native.Nat.{_+_, _≤_, _<_};
 ghost use lib.ListN.{length};
-ghost use lib.Dec.{ltb};
-ghost use Rattle.sum.specs.Sum.{pairOf};
 ghost use Rattle.window.specs.declared.Found.the-variants.{Nothing};
-ghost use Rattle.look.specs.declared.Kind.the-variants.{Ubx, Rtcm, Sentence};
-ghost use Rattle.look.specs.declared.Tale.the-variants.{WrongSum};
-ghost use Rattle.look.specs.declared.Verdict.the-variants.{Tell};
+ghost use Rattle.claim.specs.declared.Kind.the-variants.{Ubx, Rtcm, Sentence};
+ghost use Rattle.claim.specs.Sizes.{around};
 ghost use Rattle.look.specs.declared.Sight.the-variants.{Say};
-ghost use Rattle.look.specs.Rules.{skip, around, size, claim, lookUbx, lookRtcm, lookNmea, endAt};
-ghost use Rattle.look.specs.Moves.{canHand, cost, judge, judgeSum, judgeParity, lacks, settled, stepMove};
-use sum::Sums;
+ghost use Rattle.look.specs.Rules.{claim, lookUbx, lookRtcm, lookNmea, endAt};
+ghost use Rattle.look.specs.Moves.{judge, settled, stepMove};
+use claim::Kind;
+use claim::Verdict;
 use window::Found;
 use window::Mode;
-
-pub const UBX_SYNC_SIZE: usize = 2;
-
-pub const UBX_HEADER_LEN: usize = 6;
-
-pub const UBX_CHECKSUM_LEN: usize = 2;
-
-const RTCM_HEADER_SIZE: usize = 3;
-
-const RTCM_PARITY_LEN: usize = 3;
-
-const NMEA_END_CHARS_LEN: usize = 2;
 
 const NMEA_MIN_BUFFER_SIZE: usize = 8;
 
 const NMEA_MAX_SENTENCE_LENGTH: usize = 82;
-
-// A frame that a head claims: UBX with class, id and n; RTCM with n, and whether it is read with parity; a sentence whose CR
-// stands at i.
-pub enum Kind {
-    Ubx { class: u8, id: u8, n: usize },
-    Rtcm { n: usize, parity: bool },
-    Sentence { i: usize },
-}
-
-// An answer that hands out no bytes.
-pub enum Tale {
-    WrongSum {
-        class: u8,
-        id: u8,
-        n: usize,
-        expect: u16,
-        got: u16,
-    },
-    WrongParity {
-        expect: u32,
-        got: u32,
-    },
-    NoRoom {
-        drain: usize,
-        size: usize,
-    },
-}
-
-// What a step says: drain so many and need more; a tale; a frame to hand out.
-pub enum Verdict {
-    Wait(usize),
-    Tell(Tale),
-    Hand(Kind),
-}
 
 // Why bytes are passed in silence: the front byte is no sync byte; the second byte is not 62; n is over MAX.
 pub enum Why {
@@ -81,123 +33,15 @@ pub enum Sight {
     Say(Verdict),
 }
 
-// The bytes drained before a frame's body.
-pub fn skip(kind: Kind) -> usize
-    ensures { λ r. ⌜ r ≡ skip kind ⌝ }
-{
-    match kind {
-        Kind::Ubx {
-            class: _,
-            id: _,
-            n: _,
-        } => UBX_HEADER_LEN,
-        Kind::Rtcm { n: _, parity: _ } => 0,
-        Kind::Sentence { i: _ } => 0,
-    }
-}
-
-// What an RTCM frame has around its message: the head before it and, where it is read with parity, that behind it.
-pub fn around(parity: bool) -> usize
-    ensures { λ r. ⌜ r ≡ around parity ⌝ }
-    ensures { λ r. ⌜ r ≤ 6 ⌝ }
-{
-    if parity {
-        return RTCM_HEADER_SIZE + RTCM_PARITY_LEN;
-    }
-    RTCM_HEADER_SIZE
-}
-
-// The length of its body: a UBX frame's is payload and check bytes, the others' the whole frame.
-pub fn size(kind: Kind) -> usize
-    requires { ⌜ size kind < 2 ^ 64 ⌝ }
-    ensures { λ r. ⌜ r ≡ size kind ⌝ }
-{
-    match kind {
-        Kind::Ubx { class: _, id: _, n } => n + UBX_CHECKSUM_LEN,
-        Kind::Rtcm { n, parity } => n + around(parity),
-        Kind::Sentence { i } => i + NMEA_END_CHARS_LEN,
-    }
-}
-
-// The bytes drained with an answer that hands out none.
-pub fn cost(tale: Tale) -> usize
-    ensures { λ r. ⌜ r ≡ cost tale ⌝ }
-{
-    match tale {
-        Tale::WrongSum {
-            class: _,
-            id: _,
-            n: _,
-            expect: _,
-            got: _,
-        } => UBX_SYNC_SIZE,
-        Tale::WrongParity { expect: _, got: _ } => 1,
-        Tale::NoRoom { drain, size: _ } => drain,
-    }
-}
-
-// The hand-out test: drain d, take t, where u of the window's w bytes lie in the carry.
-pub fn can_hand(cap: usize, u: usize, w: usize, d: usize, t: usize) -> bool
-    requires { ⌜ d + t < 2 ^ 64 ⌝ }
-    ensures { λ r. ⌜ r ≡ canHand cap u w d t ⌝ }
-{
-    if w < d + t {
-        return false;
-    }
-    if u <= d {
-        return true;
-    }
-    if t <= u - d {
-        return true;
-    }
-    t <= cap
-}
-
-// A frame that can't be handed out: no room where the window is over C, else need more.
-pub fn lacks(cap: usize, w: usize, drain: usize, size: usize) -> Verdict
-    ensures { λ r. ⌜ r ≡ lacks (ltb cap w) drain size ⌝ }
-{
-    if cap < w {
-        let tale = Tale::NoRoom { drain, size };
-        return Verdict::Tell(tale);
-    }
-    Verdict::Wait(0)
-}
-
-// A wrong sum: class, id and length of the head, the received pair, and the computed one.
-fn wrong_sum(class: u8, id: u8, n: usize, a: u8, b: u8, got: Sums) -> Verdict
-    ensures { λ r. ⌜ r ≡ Tell (WrongSum class id n (pairOf a b) (pairOf (got .a) (got .b))) ⌝ }
-{
-    let tale = Tale::WrongSum {
-        class,
-        id,
-        n,
-        expect: sum::word(a, b),
-        got: sum::word(got.a, got.b),
-    };
-    Verdict::Tell(tale)
-}
-
-// What the received pair a, b and the computed one say of a UBX frame.
-pub fn judged(a: u8, b: u8, got: Sums, class: u8, id: u8, n: usize) -> Verdict
-    ensures { λ r. ⌜ r ≡ judgeSum a b got class id n ⌝ }
-{
-    if a == got.a && b == got.b {
-        let kind = Kind::Ubx { class, id, n };
-        return Verdict::Hand(kind);
-    }
-    wrong_sum(class, id, n, a, b, got)
-}
-
 // A whole UBX frame: its sum decides.
 fn ubx_judged(a: &[u8], b: &[u8], class: u8, id: u8, n: usize) -> Verdict
     requires { ⌜ n + 8 ≤ length (now a) + length (now b) ⌝ }
     ensures { λ r. ⌜ r ≡ judge (Ubx class id n) (now (a .entry) ++ now (b .entry)) ⌝ }
 {
-    let got = window::sum_of(a, b, UBX_SYNC_SIZE, UBX_HEADER_LEN + n);
-    let ck_a = window::byte_at(a, b, UBX_HEADER_LEN + n);
-    let ck_b = window::byte_at(a, b, UBX_HEADER_LEN + n + 1);
-    judged(ck_a, ck_b, got, class, id, n)
+    let got = window::sum_of(a, b, claim::UBX_SYNC_SIZE, claim::UBX_HEADER_LEN + n);
+    let ck_a = window::byte_at(a, b, claim::UBX_HEADER_LEN + n);
+    let ck_b = window::byte_at(a, b, claim::UBX_HEADER_LEN + n + 1);
+    claim::judged(ck_a, ck_b, got, class, id, n)
 }
 
 // A UBX head with n at most MAX.
@@ -206,11 +50,11 @@ fn ubx_claimed(cap: usize, a: &[u8], b: &[u8], class: u8, id: u8, n: usize) -> V
     ensures { λ r. ⌜ Say r ≡ settled cap (length (now (a .entry))) (now (a .entry) ++ now (b .entry)) (claim (Ubx class id n)) ⌝ }
 {
     let w = a.len() + b.len();
-    let size = n + UBX_CHECKSUM_LEN;
-    if can_hand(cap, a.len(), w, UBX_HEADER_LEN, size) {
+    let size = n + claim::UBX_CHECKSUM_LEN;
+    if claim::can_hand(cap, a.len(), w, claim::UBX_HEADER_LEN, size) {
         return ubx_judged(a, b, class, id, n);
     }
-    lacks(cap, w, UBX_SYNC_SIZE, size)
+    claim::lacks(cap, w, claim::UBX_SYNC_SIZE, size)
 }
 
 // Rule 2, at B5.
@@ -218,13 +62,13 @@ fn at_ubx(max: u16, cap: usize, a: &[u8], b: &[u8]) -> Sight
     ensures { λ r. ⌜ r ≡ settled cap (length (now (a .entry))) (now (a .entry) ++ now (b .entry)) (lookUbx max (now (a .entry) ++ now (b .entry))) ⌝ }
 {
     let w = a.len() + b.len();
-    if w < UBX_SYNC_SIZE {
+    if w < claim::UBX_SYNC_SIZE {
         return Sight::Say(Verdict::Wait(0));
     }
     if window::byte_at(a, b, 1) != window::UBX_SYNC_CHAR_2 {
         return Sight::Pass(Why::NotPair);
     }
-    if w < UBX_HEADER_LEN {
+    if w < claim::UBX_HEADER_LEN {
         return Sight::Say(Verdict::Wait(0));
     }
     let n = sum::word(window::byte_at(a, b, 4), window::byte_at(a, b, 5));
@@ -237,42 +81,17 @@ fn at_ubx(max: u16, cap: usize, a: &[u8], b: &[u8]) -> Sight
     Sight::Say(v)
 }
 
-fn wide(x: u8) -> usize
-    ensures { λ r. ⌜ r ≡ x ⌝ }
-{
-    x as usize
-}
-
-// An RTCM frame's length: the low 10 bits of its two bytes, big-endian.
-pub fn rtcm_length(high: u8, low: u8) -> usize
-    ensures { λ r. ⌜ r ≡ (256 * high + low) % 1024 ⌝ }
-{
-    (256 * wide(high) + wide(low)) % 1024
-}
-
-// What the received parity and the computed one say of an RTCM frame.
-fn parity_judged(expect: u32, got: u32, n: usize) -> Verdict
-    ensures { λ r. ⌜ r ≡ judgeParity expect got n ⌝ }
-{
-    if expect == got {
-        let kind = Kind::Rtcm { n, parity: true };
-        return Verdict::Hand(kind);
-    }
-    let tale = Tale::WrongParity { expect, got };
-    Verdict::Tell(tale)
-}
-
 // A whole RTCM frame with its parity: that decides.
 fn parity_checked(a: &[u8], b: &[u8], n: usize) -> Verdict
     requires { ⌜ n + 6 ≤ length (now a) + length (now b) ⌝ }
     ensures { λ r. ⌜ r ≡ judge (Rtcm n true) (now (a .entry) ++ now (b .entry)) ⌝ }
 {
-    let end = n + RTCM_HEADER_SIZE;
+    let end = n + claim::RTCM_HEADER_SIZE;
     let got = window::parity_of(a, b, end);
     let high = window::byte_at(a, b, end);
     let middle = window::byte_at(a, b, end + 1);
     let low = window::byte_at(a, b, end + 2);
-    parity_judged(parity::word(high, middle, low), got, n)
+    claim::parity_judged(parity::word(high, middle, low), got, n)
 }
 
 // A whole RTCM frame, read with parity or as the crate reads it.
@@ -292,15 +111,15 @@ fn at_rtcm(parity: bool, cap: usize, a: &[u8], b: &[u8]) -> Verdict
     ensures { λ r. ⌜ Say r ≡ settled cap (length (now (a .entry))) (now (a .entry) ++ now (b .entry)) (lookRtcm parity (now (a .entry) ++ now (b .entry))) ⌝ }
 {
     let w = a.len() + b.len();
-    if w < RTCM_HEADER_SIZE {
+    if w < claim::RTCM_HEADER_SIZE {
         return Verdict::Wait(0);
     }
-    let n = rtcm_length(window::byte_at(a, b, 1), window::byte_at(a, b, 2));
-    let size = n + around(parity);
-    if can_hand(cap, a.len(), w, 0, size) {
+    let n = claim::rtcm_length(window::byte_at(a, b, 1), window::byte_at(a, b, 2));
+    let size = n + claim::around(parity);
+    if claim::can_hand(cap, a.len(), w, 0, size) {
         return rtcm_judged(a, b, n, parity);
     }
-    lacks(cap, w, 1, size)
+    claim::lacks(cap, w, 1, size)
 }
 
 // A sentence whose CR stands at i.
@@ -309,12 +128,12 @@ fn sentence_claimed(cap: usize, a: &[u8], b: &[u8], i: usize) -> Verdict
     ensures { λ r. ⌜ Say r ≡ settled cap (length (now (a .entry))) (now (a .entry) ++ now (b .entry)) (claim (Sentence i)) ⌝ }
 {
     let w = a.len() + b.len();
-    let size = i + NMEA_END_CHARS_LEN;
-    if can_hand(cap, a.len(), w, 0, size) {
+    let size = i + claim::NMEA_END_CHARS_LEN;
+    if claim::can_hand(cap, a.len(), w, 0, size) {
         let kind = Kind::Sentence { i };
         return Verdict::Hand(kind);
     }
-    lacks(cap, w, 1, size)
+    claim::lacks(cap, w, 1, size)
 }
 
 // No end mark: one byte is drained where a sync byte stands at 1 or later, all where there are more than 82.

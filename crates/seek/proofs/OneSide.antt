@@ -14,13 +14,15 @@ use Rattle.window.specs.declared.Mode.{Mode}
 use Rattle.window.specs.Pick.{pick}
 use Rattle.window.specs.Sync.{hasParity, isSync}
 use Rattle.window.proofs.Laws.{from, joined-left}
-use Rattle.look.specs.declared.Kind.{Kind, the-variants.{Ubx, Rtcm}}
+use Rattle.claim.specs.declared.Kind.{Kind, the-variants.{Ubx, Rtcm}}
+use Rattle.claim.specs.declared.Verdict.the-variants.{Wait, Hand}
+use Rattle.claim.specs.Sizes.{skip, around, size, back}
+use Rattle.claim.specs.Verdicts.{canHand, judgeSum, lacks}
 use Rattle.look.specs.declared.Why.the-variants.{NotPair, OverMax}
-use Rattle.look.specs.declared.Verdict.the-variants.{Wait, Hand}
 use Rattle.look.specs.declared.Sight.the-variants.{Pass, Say}
 use Rattle.seek.specs.declared.Hint.{Hint}
-use Rattle.look.specs.Rules.{skip, around, size, back, claim, lookUbx, lookRtcm, atSync}
-use Rattle.look.specs.Moves.{canHand, judgeSum, judge, lacks, settled, stepMove}
+use Rattle.look.specs.Rules.{claim, lookUbx, lookRtcm, atSync}
+use Rattle.look.specs.Moves.{judge, settled, stepMove}
 use Rattle.seek.specs.Passed.{moveAt}
 use Rattle.seek.specs.OneSide.{firstOf, Begins, Tells}
 use Rattle.look.proofs.Rules.{judged, judge-bare, ubx-other, ubx-over, ubx-claims, rtcm-claims, look-sync}

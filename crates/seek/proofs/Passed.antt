@@ -11,8 +11,8 @@ use Rattle.window.specs.declared.Mode.{Mode}
 use Rattle.window.specs.Pick.{pick}
 use Rattle.window.proofs.Pick.{by-pick}
 use Rattle.window.specs.Sync.{isSync, firstSync, first}
+use Rattle.claim.specs.declared.Verdict.the-variants.{Wait}
 use Rattle.look.specs.declared.Why.{Why, the-variants.{NoSync}}
-use Rattle.look.specs.declared.Verdict.the-variants.{Wait}
 use Rattle.look.specs.declared.Sight.the-variants.{Pass, Say}
 use Rattle.look.specs.Rules.{far, look}
 use Rattle.look.specs.Moves.{stepMove}

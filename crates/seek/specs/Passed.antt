@@ -4,8 +4,8 @@ use Prim.Native.Nat.{ℕ, _+_, _-_, _≤_}
 use mathlib.Core.List.{List}
 use lib.ListN.{length, drop}
 use Rattle.window.specs.declared.Mode.{Mode}
+use Rattle.claim.specs.declared.Verdict.{Verdict}
 use Rattle.look.specs.declared.Why.{Why}
-use Rattle.look.specs.declared.Verdict.{Verdict}
 use Rattle.look.specs.declared.Sight.{Sight, the-variants.{Pass, Say}}
 use Rattle.look.specs.Rules.{far}
 use Rattle.look.specs.Moves.{stepMove}

@@ -5,15 +5,15 @@ ghost use mathlib.Core.Bool.{true};
 ghost use mathlib.Core.List.{List, _++_};
 ghost use Prim.Native.Nat.{ℕ, _+_, _≤_};
 ghost use lib.ListN.{length};
-ghost use Rattle.look.specs.declared.Verdict.the-variants.{Wait};
+ghost use Rattle.claim.specs.declared.Verdict.the-variants.{Wait};
 ghost use Rattle.look.specs.declared.Sight.the-variants.{Say};
 ghost use Rattle.look.specs.Rules.{far, lookUbx, lookRtcm};
 ghost use Rattle.look.specs.Moves.{settled, stepMove};
 ghost use Rattle.seek.specs.Passed.{moveAt, Passed, Stops};
 ghost use Rattle.seek.specs.OneSide.{firstOf, Begins, Tells};
-use look::Kind;
+use claim::Kind;
+use claim::Verdict;
 use look::Sight;
-use look::Verdict;
 use look::Why;
 use window::Mode;
 
@@ -72,15 +72,15 @@ fn glance_ubx(max: u16, cap: usize, s: &[u8], w: usize) -> Hint
     }
     let n = m as usize;
     if w < n + 8 {
-        let v = look::lacks(cap, w, look::UBX_SYNC_SIZE, n + look::UBX_CHECKSUM_LEN);
+        let v = claim::lacks(cap, w, claim::UBX_SYNC_SIZE, n + claim::UBX_CHECKSUM_LEN);
         return Hint::Sure(v);
     }
     if s.len() < n + 8 {
         return Hint::Unsure;
     }
-    let end = look::UBX_HEADER_LEN + n;
-    let got = sum::update(sum::new(), &s[look::UBX_SYNC_SIZE..end]);
-    let v = look::judged(s[end], s[end + 1], got, s[2], s[3], n);
+    let end = claim::UBX_HEADER_LEN + n;
+    let got = sum::update(sum::new(), &s[claim::UBX_SYNC_SIZE..end]);
+    let v = claim::judged(s[end], s[end + 1], got, s[2], s[3], n);
     Hint::Sure(v)
 }
 
@@ -89,10 +89,10 @@ fn glance_rtcm(parity: bool, cap: usize, s: &[u8], w: usize) -> Hint
     requires { ⌜ 3 ≤ length (now s) ⌝ }
     ensures { λ r. ⌜ ((u : ℕ) (W : List ℕ) → Begins (now (s .entry)) W u w → Tells r (settled cap u W (lookRtcm parity W))) ⌝ }
 {
-    let n = look::rtcm_length(s[1], s[2]);
-    let size = n + look::around(parity);
+    let n = claim::rtcm_length(s[1], s[2]);
+    let size = n + claim::around(parity);
     if w < size {
-        let v = look::lacks(cap, w, 1, size);
+        let v = claim::lacks(cap, w, 1, size);
         return Hint::Sure(v);
     }
     if parity {
@@ -124,8 +124,8 @@ fn is_short_rtcm(parity: bool, s: &[u8], w: usize) -> bool
     requires { ⌜ 3 ≤ length (now s) ⌝ }
     ensures { λ r. ⌜ (r ≡ true → (cap u : ℕ) (W : List ℕ) → w ≤ cap → Begins (now (s .entry)) W u w → settled cap u W (lookRtcm parity W) ≡ Say (Wait 0)) ⌝ }
 {
-    let n = look::rtcm_length(s[1], s[2]);
-    w < n + look::around(parity)
+    let n = claim::rtcm_length(s[1], s[2]);
+    w < n + claim::around(parity)
 }
 
 // True only where a window of w bytes is shorter than the frame at its front, which is then waited for; false tells nothing. One
@@ -176,7 +176,7 @@ pub fn seek<'a>(mode: Mode, max: u16, cap: usize, a: &'a [u8], b: &'a [u8]) -> S
     let s = first_of(a, b);
     let mut skip = 0;
     while skip < s.len() {
-        if s.len() - skip < look::UBX_HEADER_LEN {
+        if s.len() - skip < claim::UBX_HEADER_LEN {
             break;
         }
         let told = glance(mode, max, cap, &s[skip..], w - skip);

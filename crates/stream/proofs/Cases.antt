@@ -7,11 +7,11 @@ use native.Mathlib.Omega.{arith}
 use lib.ListN.{length, drop, length-drop}
 use lib.Seq.{length-take-le}
 use Rattle.window.proofs.Pick.{by-pick}
-use Rattle.look.specs.declared.Kind.{Kind, the-variants.{Ubx, Rtcm, Sentence}}
-use Rattle.look.specs.declared.Tale.{Tale, the-variants.{WrongSum, WrongParity, NoRoom}}
-use Rattle.look.specs.declared.Verdict.{Verdict, the-variants.{Wait, Tell, Hand}}
+use Rattle.claim.specs.declared.Kind.{Kind, the-variants.{Ubx, Rtcm, Sentence}}
+use Rattle.claim.specs.declared.Tale.{Tale, the-variants.{WrongSum, WrongParity, NoRoom}}
+use Rattle.claim.specs.declared.Verdict.{Verdict, the-variants.{Wait, Tell, Hand}}
+use Rattle.claim.specs.Sizes.{around}
 use Rattle.look.specs.declared.Sight.the-variants.{Say}
-use Rattle.look.specs.Rules.{around}
 use Rattle.look.specs.Moves.{judge}
 use Rattle.look.specs.Within.{whole}
 use Rattle.taking.specs.declared.Place.{Place}

@@ -6,9 +6,10 @@ use Prim.Native.Nat.{ℕ, zero, suc, _+_}
 use native.Mathlib.Nat.{add-zero}
 use native.Mathlib.Omega.{arith}
 use lib.ListN.{length}
-use Rattle.look.specs.declared.Verdict.the-variants.{Wait, Tell, Hand}
+use Rattle.claim.specs.declared.Verdict.the-variants.{Wait, Tell, Hand}
+use Rattle.claim.specs.Sizes.{skip, size}
 use Rattle.look.specs.declared.Sight.{Sight, the-variants.{Pass, Say}}
-use Rattle.look.specs.Rules.{skip, size, far}
+use Rattle.look.specs.Rules.{far}
 use Rattle.state.specs.declared.State.{State}
 use Rattle.state.specs.declared.Leave.{Leave, the-variants.{Granted, Denied}}
 use Rattle.state.specs.Words.{window, width, drain}

@@ -15,9 +15,10 @@ use Rattle.window.specs.Pick.{pick}
 use Rattle.window.specs.Sync.{hasParity}
 use Rattle.window.specs.EndMark.{endMark}
 use Rattle.window.proofs.Pick.{by-pick}
-use Rattle.look.specs.declared.Kind.the-variants.{Ubx}
+use Rattle.claim.specs.declared.Kind.the-variants.{Ubx}
+use Rattle.claim.specs.Verdicts.{judgeSum}
 use Rattle.look.specs.Rules.{Look, claim, lookUbx, lookRtcm, endAt, lookNmea, look}
-use Rattle.look.specs.Moves.{judgeSum, judge}
+use Rattle.look.specs.Moves.{judge}
 use Rattle.look.specs.Within.{whole}
 use Rattle.look.proofs.Rules.{ubx-claims}
 use Rattle.stream.specs.Interface.{lengthBytes, summed, framed, Bytes}

@@ -14,9 +14,9 @@ use Rattle.window.specs.declared.Found.{Found, the-variants.{At, Nothing}}
 use Rattle.window.specs.Sync.{hasParity}
 use Rattle.window.specs.EndMark.{endMark}
 use Rattle.window.proofs.Pick.{by-pick}
-use Rattle.look.specs.declared.Kind.{Kind, the-variants.{Ubx, Rtcm, Sentence}}
-use Rattle.look.specs.declared.Tale.{Tale, the-variants.{WrongSum, WrongParity, NoRoom}}
-use Rattle.look.specs.declared.Verdict.{Verdict, the-variants.{Wait, Tell, Hand}}
+use Rattle.claim.specs.declared.Kind.{Kind, the-variants.{Ubx, Rtcm, Sentence}}
+use Rattle.claim.specs.declared.Tale.{Tale, the-variants.{WrongSum, WrongParity, NoRoom}}
+use Rattle.claim.specs.declared.Verdict.{Verdict, the-variants.{Wait, Tell, Hand}}
 use Rattle.look.specs.declared.Sight.{Sight, the-variants.{Pass, Say}}
 use Rattle.look.specs.Rules.{Look, need, pass, claim, lookUbx, lookRtcm, endAt, lookNmea, look}
 use Rattle.look.specs.Moves.{judge}

@@ -9,12 +9,13 @@ use lib.ListN.{length, take, drop}
 use lib.Dec.{ltb}
 use borrow.Author.Tests.{leb-true, le-leb}
 use Rattle.window.specs.declared.Mode.{Mode}
-use Rattle.look.specs.declared.Kind.{Kind, the-variants.{Ubx}}
-use Rattle.look.specs.declared.Tale.the-variants.{WrongSum}
-use Rattle.look.specs.declared.Verdict.the-variants.{Tell, Hand}
+use Rattle.claim.specs.declared.Kind.{Kind, the-variants.{Ubx}}
+use Rattle.claim.specs.declared.Tale.the-variants.{WrongSum}
+use Rattle.claim.specs.declared.Verdict.the-variants.{Tell, Hand}
+use Rattle.claim.specs.Sizes.{skip, size}
+use Rattle.claim.specs.Verdicts.{canHand}
 use Rattle.look.specs.declared.Sight.the-variants.{Say}
-use Rattle.look.specs.Rules.{skip, size}
-use Rattle.look.specs.Moves.{canHand, stepMove}
+use Rattle.look.specs.Moves.{stepMove}
 use Rattle.look.specs.Within.{whole}
 use Rattle.look.proofs.Rules.{hand-whole}
 use Rattle.stream.specs.Scan.{isWhole, scanMove}

@@ -11,7 +11,7 @@ use Rattle.window.specs.declared.Found.{Found, the-variants.{At, Nothing}}
 use Rattle.window.specs.Sync.{hasParity}
 use Rattle.window.specs.EndMark.{endMark}
 use Rattle.window.proofs.Pick.{by-pick}
-use Rattle.look.specs.declared.Kind.{Kind, the-variants.{Ubx, Rtcm, Sentence}}
+use Rattle.claim.specs.declared.Kind.{Kind, the-variants.{Ubx, Rtcm, Sentence}}
 use Rattle.look.specs.declared.Sight.the-variants.{Say}
 use Rattle.look.specs.Rules.{far, Look, need, pass, claim, lookUbx, lookRtcm, endAt, lookNmea, look}
 use Rattle.look.specs.Moves.{judge}

@@ -9,7 +9,7 @@ use lib.ListN.{length, getD, drop}
 use lib.Seq.{drop-drop, getD-drop}
 use lib.Dec.{leb}
 use borrow.Author.Tests.{leb-true, leb-false}
-use Rattle.look.specs.declared.Verdict.the-variants.{Wait, Tell, Hand}
+use Rattle.claim.specs.declared.Verdict.the-variants.{Wait, Tell, Hand}
 use Rattle.look.specs.declared.Sight.{Sight, the-variants.{Pass, Say}}
 use Rattle.stream.specs.Scan.{Event, frameSaid, body}
 use Rattle.stream.specs.Frames.{Kept, handed, inside, unfinished}

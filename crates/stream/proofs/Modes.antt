@@ -11,9 +11,10 @@ use Rattle.window.specs.declared.Mode.{Mode, the-variants.{One, Two, Three}}
 use Rattle.window.specs.Sync.{hasParity, isSync}
 use Rattle.window.proofs.Pick.{by-pick, pick-true, pick-false}
 use Rattle.window.specs.Pick.{pick}
+use Rattle.claim.specs.Sizes.{around}
 use Rattle.look.specs.declared.Why.the-variants.{NoSync}
 use Rattle.look.specs.declared.Sight.the-variants.{Pass}
-use Rattle.look.specs.Rules.{around, Look, lookUbx, lookRtcm, look}
+use Rattle.look.specs.Rules.{Look, lookUbx, lookRtcm, look}
 use Rattle.look.proofs.Within.{look-in}
 use Rattle.stream.specs.Demand.{Roomy}
 use Rattle.stream.specs.Scan.{scanMove, HasScan}

@@ -4,7 +4,7 @@ use Prim.Native.Nat.{ℕ, zero, suc, _+_}
 use lib.ListN.{length, drop}
 use Rattle.window.specs.declared.Mode.{Mode}
 use Rattle.window.proofs.Pick.{by-pick}
-use Rattle.look.specs.declared.Verdict.the-variants.{Wait, Tell, Hand}
+use Rattle.claim.specs.declared.Verdict.the-variants.{Wait, Tell, Hand}
 use Rattle.look.specs.declared.Sight.{Sight, the-variants.{Pass, Say}}
 use Rattle.look.specs.Rules.{Look, need, pass, claim, look}
 use Rattle.stream.specs.Scan.{body, Scan, scanAt, scanBy, scanSight, scanMove, scan}

@@ -7,9 +7,9 @@ use native.Mathlib.Omega.{arith}
 use lib.ListN.{length, take, drop, length-drop}
 use lib.Seq.{getD-drop, length-take-le}
 use Rattle.window.specs.declared.Mode.{Mode}
-use Rattle.look.specs.declared.Kind.{Kind, the-variants.{Ubx, Rtcm, Sentence}}
-use Rattle.look.specs.declared.Tale.{Tale, the-variants.{WrongSum, WrongParity, NoRoom}}
-use Rattle.look.specs.declared.Verdict.the-variants.{Wait, Tell, Hand}
+use Rattle.claim.specs.declared.Kind.{Kind, the-variants.{Ubx, Rtcm, Sentence}}
+use Rattle.claim.specs.declared.Tale.{Tale, the-variants.{WrongSum, WrongParity, NoRoom}}
+use Rattle.claim.specs.declared.Verdict.the-variants.{Wait, Tell, Hand}
 use Rattle.look.specs.declared.Sight.{Sight, the-variants.{Pass, Say}}
 use Rattle.look.specs.Within.{whole}
 use Rattle.stream.specs.Scan.{ubxFrame, wrongSum, Event, taleSaid, frameSaid, body, scanMove, HasScan}

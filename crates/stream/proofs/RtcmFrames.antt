@@ -9,10 +9,10 @@ use native.Mathlib.Nat.{zero-add}
 use native.Mathlib.Omega.{arith}
 use lib.ListN.{length, getD, take, drop}
 use Rattle.window.specs.declared.Mode.the-variants.{Two}
-use Rattle.look.specs.declared.Kind.the-variants.{Rtcm}
-use Rattle.look.specs.declared.Verdict.the-variants.{Hand}
+use Rattle.claim.specs.declared.Kind.the-variants.{Rtcm}
+use Rattle.claim.specs.declared.Verdict.the-variants.{Hand}
+use Rattle.claim.specs.Sizes.{around}
 use Rattle.look.specs.declared.Sight.the-variants.{Say}
-use Rattle.look.specs.Rules.{around}
 use Rattle.stream.specs.Scan.{Said, ubxFrame, rtcmFrame, sentence, wrongSum, wrongParity, noRoom, Event, body, scanMove, scanFrom, scan}
 use Rattle.stream.specs.Interface.{frame, GoodFrame, Bytes}
 use Rattle.stream.specs.Frames.{span, handOut, Kept, handed as kept-handed, inside as kept-inside, unfinished as kept-unfinished}

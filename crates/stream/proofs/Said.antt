@@ -12,12 +12,14 @@ use Rattle.sum.specs.Sum.{sumOf, pairOf}
 use Rattle.window.specs.declared.Mode.{Mode}
 use Rattle.window.specs.Pick.{pick}
 use Rattle.window.proofs.Pick.{by-pick}
-use Rattle.look.specs.declared.Kind.{Kind, the-variants.{Ubx, Rtcm, Sentence}}
-use Rattle.look.specs.declared.Tale.the-variants.{WrongSum, WrongParity, NoRoom}
-use Rattle.look.specs.declared.Verdict.{Verdict, the-variants.{Wait, Tell, Hand}}
+use Rattle.claim.specs.declared.Kind.{Kind, the-variants.{Ubx, Rtcm, Sentence}}
+use Rattle.claim.specs.declared.Tale.the-variants.{WrongSum, WrongParity, NoRoom}
+use Rattle.claim.specs.declared.Verdict.{Verdict, the-variants.{Wait, Tell, Hand}}
+use Rattle.claim.specs.Sizes.{back, size}
+use Rattle.claim.specs.Verdicts.{judgeSum, lacks}
 use Rattle.look.specs.declared.Sight.{Sight, the-variants.{Say}}
-use Rattle.look.specs.Rules.{back, size, Look, need, pass, claim, look}
-use Rattle.look.specs.Moves.{judgeSum, judge, lacks, settle}
+use Rattle.look.specs.Rules.{Look, need, pass, claim, look}
+use Rattle.look.specs.Moves.{judge, settle}
 use Rattle.look.specs.Within.{whole}
 use Rattle.stream.specs.Interface.{checksum, summed, framed, GoodFrame, WrongFrame, Bytes}
 use Rattle.stream.proofs.Checksum.{checksum-is}

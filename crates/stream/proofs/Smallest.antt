@@ -7,10 +7,10 @@ use native.Mathlib.Omega.{arith}
 use lib.ListN.{length, getD, drop, length-drop}
 use lib.Seq.{getD-drop, drop-drop}
 use Rattle.window.specs.declared.Mode.the-variants.{Two}
-use Rattle.look.specs.declared.Kind.the-variants.{Rtcm}
-use Rattle.look.specs.declared.Verdict.the-variants.{Hand}
+use Rattle.claim.specs.declared.Kind.the-variants.{Rtcm}
+use Rattle.claim.specs.declared.Verdict.the-variants.{Hand}
+use Rattle.claim.specs.Sizes.{around}
 use Rattle.look.specs.declared.Sight.the-variants.{Say}
-use Rattle.look.specs.Rules.{around}
 use Rattle.stream.specs.Scan.{scanMove}
 use Rattle.stream.specs.Interface.{GoodFrame}
 use Rattle.stream.specs.WeakSpot.{NoSmallerLoss}

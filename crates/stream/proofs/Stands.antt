@@ -5,11 +5,12 @@ use Prim.Native.Nat.{ℕ, zero, suc, _+_, _-_, _≤_, _<_}
 use native.Mathlib.Omega.{arith}
 use lib.ListN.{length, drop}
 use lib.Seq.{drop-drop}
-use Rattle.look.specs.declared.Kind.{Kind, the-variants.{Ubx, Rtcm, Sentence}}
-use Rattle.look.specs.declared.Tale.{Tale, the-variants.{WrongSum as TaleWrongSum, WrongParity as TaleWrongParity, NoRoom}}
-use Rattle.look.specs.declared.Verdict.{Verdict, the-variants.{Wait, Tell, Hand}}
+use Rattle.claim.specs.declared.Kind.{Kind, the-variants.{Ubx, Rtcm, Sentence}}
+use Rattle.claim.specs.declared.Tale.{Tale, the-variants.{WrongSum as TaleWrongSum, WrongParity as TaleWrongParity, NoRoom}}
+use Rattle.claim.specs.declared.Verdict.{Verdict, the-variants.{Wait, Tell, Hand}}
+use Rattle.claim.specs.Sizes.{skip, size}
 use Rattle.look.specs.declared.Sight.{Sight, the-variants.{Pass, Say}}
-use Rattle.look.specs.Rules.{skip, size, far}
+use Rattle.look.specs.Rules.{far}
 use Rattle.look.specs.Within.{Moves}
 use Rattle.state.specs.declared.State.{State}
 use Rattle.state.specs.declared.Leave.{Leave, the-variants.{Granted, Denied}}

@@ -10,9 +10,10 @@ use lib.Dec.{leb}
 use borrow.Author.Tests.{leb-true, leb-false, le-ltb, le-leb}
 use Rattle.window.specs.Pick.{pick}
 use Rattle.window.proofs.Pick.{by-pick, pick-true}
-use Rattle.look.specs.declared.Verdict.the-variants.{Wait, Tell, Hand}
+use Rattle.claim.specs.declared.Verdict.the-variants.{Wait, Tell, Hand}
+use Rattle.claim.specs.Sizes.{size}
 use Rattle.look.specs.declared.Sight.{Sight, the-variants.{Pass, Say}}
-use Rattle.look.specs.Rules.{size, Look, need, pass, claim}
+use Rattle.look.specs.Rules.{Look, need, pass, claim}
 use Rattle.look.specs.Moves.{settled}
 use Rattle.look.specs.Within.{whole, Moves}
 use Rattle.look.proofs.Within.{In, settled-in}

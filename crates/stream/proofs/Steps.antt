@@ -9,11 +9,12 @@ use lib.ListN.{length, take, drop}
 use lib.Seq.{drop-drop, take-all}
 use Rattle.window.specs.Sync.{isSync, first, firstSync}
 use Rattle.window.proofs.Pick.{by-pick}
+use Rattle.claim.specs.declared.Verdict.the-variants.{Wait, Tell, Hand}
+use Rattle.claim.specs.Sizes.{skip, size}
+use Rattle.claim.specs.Verdicts.{cost}
 use Rattle.look.specs.declared.Why.the-variants.{NoSync}
-use Rattle.look.specs.declared.Verdict.the-variants.{Wait, Tell, Hand}
 use Rattle.look.specs.declared.Sight.{Sight, the-variants.{Pass, Say}}
-use Rattle.look.specs.Rules.{skip, size, far}
-use Rattle.look.specs.Moves.{cost}
+use Rattle.look.specs.Rules.{far}
 use Rattle.look.specs.Within.{whole, Moves}
 use Rattle.state.specs.declared.State.{State}
 use Rattle.state.specs.declared.Leave.the-variants.{Granted}

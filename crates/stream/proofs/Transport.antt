@@ -11,8 +11,8 @@ use borrow.Author.Tests.{le-leb, eq-eqb}
 use Rattle.parity.specs.Parity.{parityOf, wordOf}
 use Rattle.window.specs.declared.Mode.the-variants.{Two}
 use Rattle.window.specs.Pick.{pick}
-use Rattle.look.specs.declared.Kind.the-variants.{Rtcm}
-use Rattle.look.specs.declared.Verdict.the-variants.{Hand}
+use Rattle.claim.specs.declared.Kind.the-variants.{Rtcm}
+use Rattle.claim.specs.declared.Verdict.the-variants.{Hand}
 use Rattle.look.specs.declared.Sight.the-variants.{Say}
 use Rattle.look.specs.Rules.{claim, look}
 use Rattle.look.specs.Moves.{judge}

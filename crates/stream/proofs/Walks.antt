@@ -8,12 +8,13 @@ use native.Mathlib.Nat.{add-zero}
 use native.Mathlib.Omega.{arith}
 use lib.ListN.{length, drop, length-drop}
 use lib.Seq.{take-append-le, drop-append-le, drop-drop}
-use Rattle.look.specs.declared.Kind.{Kind}
-use Rattle.look.specs.declared.Tale.{Tale}
-use Rattle.look.specs.declared.Verdict.the-variants.{Wait, Tell, Hand}
+use Rattle.claim.specs.declared.Kind.{Kind}
+use Rattle.claim.specs.declared.Tale.{Tale}
+use Rattle.claim.specs.declared.Verdict.the-variants.{Wait, Tell, Hand}
+use Rattle.claim.specs.Sizes.{skip, size}
+use Rattle.claim.specs.Verdicts.{cost}
 use Rattle.look.specs.declared.Sight.{Sight, the-variants.{Pass, Say}}
-use Rattle.look.specs.Rules.{skip, size, far}
-use Rattle.look.specs.Moves.{cost}
+use Rattle.look.specs.Rules.{far}
 use Rattle.look.specs.Within.{whole}
 use Rattle.stream.specs.Scan.{Event, frameSaid, taleSaid, body, Scan, ended, scanAt, scanBy, scanFrom}
 

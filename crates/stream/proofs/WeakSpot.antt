@@ -9,9 +9,9 @@ use borrow.Author.Tests.{le-leb, lt-leb, ne-eqb}
 use Rattle.sum.specs.Sum.{sumOn}
 use Rattle.window.specs.declared.Mode.the-variants.{One, Two}
 use Rattle.window.specs.Pick.{pick}
-use Rattle.look.specs.declared.Kind.the-variants.{Rtcm}
-use Rattle.look.specs.declared.Tale.the-variants.{WrongParity}
-use Rattle.look.specs.declared.Verdict.the-variants.{Wait, Tell, Hand}
+use Rattle.claim.specs.declared.Kind.the-variants.{Rtcm}
+use Rattle.claim.specs.declared.Tale.the-variants.{WrongParity}
+use Rattle.claim.specs.declared.Verdict.the-variants.{Wait, Tell, Hand}
 use Rattle.look.specs.declared.Sight.the-variants.{Say}
 use Rattle.look.specs.Rules.{claim, look, lookUbx, lookRtcm}
 use Rattle.look.specs.Moves.{judge}

@@ -5,12 +5,14 @@ use mathlib.Core.List.{List, [], _∷_}
 use lib.ListN.{length, take, drop}
 use lib.Dec.{leb}
 use Rattle.window.specs.declared.Mode.{Mode, the-variants.{One, Two, Three}}
-use Rattle.look.specs.declared.Kind.{Kind, the-variants.{Ubx, Rtcm, Sentence}}
-use Rattle.look.specs.declared.Tale.{Tale, the-variants.{WrongSum, WrongParity, NoRoom}}
-use Rattle.look.specs.declared.Verdict.the-variants.{Wait, Tell, Hand}
+use Rattle.claim.specs.declared.Kind.{Kind, the-variants.{Ubx, Rtcm, Sentence}}
+use Rattle.claim.specs.declared.Tale.{Tale, the-variants.{WrongSum, WrongParity, NoRoom}}
+use Rattle.claim.specs.declared.Verdict.the-variants.{Wait, Tell, Hand}
+use Rattle.claim.specs.Sizes.{skip, size}
+use Rattle.claim.specs.Verdicts.{cost}
 use Rattle.look.specs.declared.Sight.{Sight, the-variants.{Pass, Say}}
-use Rattle.look.specs.Rules.{skip, size, far, Look, look}
-use Rattle.look.specs.Moves.{cost, settle}
+use Rattle.look.specs.Rules.{far, Look, look}
+use Rattle.look.specs.Moves.{settle}
 use Rattle.look.specs.Within.{whole}
 
 -- ---- an answer as it is compared: by kind, class, id, sums, parities and the bytes viewed, at its stream position

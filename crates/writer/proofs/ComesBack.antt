@@ -12,8 +12,10 @@ use borrow.Author.Tests.{lt-ltb, le-ltb, le-leb}
 use Rattle.window.specs.declared.Mode.{Mode}
 use Rattle.window.specs.Pick.{pick}
 use Rattle.window.specs.Sync.{first}
-use Rattle.look.specs.Rules.{skip, size, look}
-use Rattle.look.specs.Moves.{canHand, stepMove}
+use Rattle.claim.specs.Sizes.{skip, size}
+use Rattle.claim.specs.Verdicts.{canHand}
+use Rattle.look.specs.Rules.{look}
+use Rattle.look.specs.Moves.{stepMove}
 use Rattle.state.specs.declared.State.{State}
 use Rattle.state.specs.declared.Leave.the-variants.{Granted}
 use Rattle.state.specs.Words.{width, idle}

@@ -2,8 +2,8 @@
 use mathlib.Core.Path.{refl, _∙_}
 use Prim.Native.Nat.{_+_}
 use native.Mathlib.Omega.{arith}
-use Rattle.look.specs.Rules.{skip, size}
-use Rattle.look.specs.Moves.{cost}
+use Rattle.claim.specs.Sizes.{skip, size}
+use Rattle.claim.specs.Verdicts.{cost}
 use Rattle.state.specs.Words.{drain}
 use Rattle.state.proofs.Granted.{drain-ready}
 use Rattle.state.proofs.Window.{drain-drain}

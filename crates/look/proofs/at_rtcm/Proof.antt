@@ -5,10 +5,11 @@ use mathlib.Core.List.{_++_}
 use Prim.Native.Nat.{_+_, _<_, _≤_}
 use native.Mathlib.Omega.{arith}
 use lib.ListN.{length, length-append}
-use Rattle.look.specs.declared.Kind.the-variants.{Rtcm}
+use Rattle.claim.specs.declared.Kind.the-variants.{Rtcm}
+use Rattle.claim.specs.Sizes.{around}
+use Rattle.claim.specs.Verdicts.{canHand}
 use Rattle.look.specs.declared.Sight.the-variants.{Say}
-use Rattle.look.specs.Rules.{claim, around, lookRtcm}
-use Rattle.look.specs.Moves.{canHand}
+use Rattle.look.specs.Rules.{claim, lookRtcm}
 use Rattle.look.proofs.Rules.{hand-whole, rtcm-short, rtcm-claims, claim-fits, claim-lacks}
 use borrow.Author.Needs.{needs}
 use Rattle.look.proofs.at_rtcm.Statement.{statement}

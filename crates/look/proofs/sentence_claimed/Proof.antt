@@ -1,7 +1,7 @@
 -- `look::sentence_claimed` meets its contract.
 use mathlib.Core.Path.{sym, ap, _∙_}
 use mathlib.Core.List.{_++_}
-use Rattle.look.specs.declared.Kind.the-variants.{Sentence}
+use Rattle.claim.specs.declared.Kind.the-variants.{Sentence}
 use Rattle.look.specs.declared.Sight.the-variants.{Say}
 use Rattle.look.proofs.Rules.{claim-fits, claim-lacks, judge-sentence}
 use borrow.Author.Needs.{needs}

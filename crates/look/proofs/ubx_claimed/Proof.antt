@@ -3,7 +3,7 @@ use mathlib.Core.Path.{sym, ap, _∙_}
 use Prim.Native.Nat.{_+_}
 use native.Mathlib.Omega.{arith}
 use lib.ListN.{length}
-use Rattle.look.specs.declared.Kind.the-variants.{Ubx}
+use Rattle.claim.specs.declared.Kind.the-variants.{Ubx}
 use Rattle.look.specs.declared.Sight.the-variants.{Say}
 use Rattle.look.proofs.Rules.{hand-whole, claim-fits, claim-lacks}
 use borrow.Author.Needs.{needs}

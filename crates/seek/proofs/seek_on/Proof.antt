@@ -5,8 +5,8 @@ use Prim.Native.Nat.{_+_, _-_, _≤_}
 use native.Mathlib.Omega.{arith}
 use lib.ListN.{length, length-append}
 use borrow.Author.Needs.{needs}
+use Rattle.claim.specs.declared.Verdict.the-variants.{Wait}
 use Rattle.look.specs.declared.Why.the-variants.{NoSync, NotPair, OverMax}
-use Rattle.look.specs.declared.Verdict.the-variants.{Wait}
 use Rattle.look.specs.declared.Sight.the-variants.{Pass, Say}
 use Rattle.seek.specs.Passed.{Passed}
 use Rattle.seek.proofs.Passed.{pass-noise, at-end, pass-turn}

@@ -1,10 +1,10 @@
--- `look::can_hand` meets its contract.
+-- `claim::can_hand` meets its contract.
 use Prim.Native.Nat.{_-_}
 use native.Mathlib.Omega.{arith}
 use borrow.Author.Tests.{lt-leb, le-leb, lt-ltb, le-ltb}
 use borrow.Author.Needs.{needs}
-use Rattle.look.proofs.can_hand.Statement.{statement}
-use Rattle.look.proofs.can_hand.Tie as tie
+use Rattle.claim.proofs.can_hand.Statement.{statement}
+use Rattle.claim.proofs.can_hand.Tie as tie
 
 add-if1 : tie.Need-add-if1
 add-if1 c = search needs

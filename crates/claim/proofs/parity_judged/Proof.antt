@@ -1,8 +1,8 @@
--- `look::parity_judged` meets its contract.
+-- `claim::parity_judged` meets its contract.
 use borrow.Author.Tests.{eq-eqb, ne-eqb}
 use Rattle.window.specs.Pick.{pick}
-use Rattle.look.proofs.parity_judged.Statement.{statement}
-use Rattle.look.proofs.parity_judged.Tie as tie
+use Rattle.claim.proofs.parity_judged.Statement.{statement}
+use Rattle.claim.proofs.parity_judged.Tie as tie
 
 returns : tie.Need-returns
 unfolding pick

@@ -1,8 +1,8 @@
--- `look::size` meets its contract.
+-- `claim::size` meets its contract.
 use native.Mathlib.Omega.{arith}
 use borrow.Author.Needs.{needs}
-use Rattle.look.proofs.size.Statement.{statement}
-use Rattle.look.proofs.size.Tie as tie
+use Rattle.claim.proofs.size.Statement.{statement}
+use Rattle.claim.proofs.size.Tie as tie
 
 enum-known-kind : tie.Need-enum-known-kind
 enum-known-kind c = search needs

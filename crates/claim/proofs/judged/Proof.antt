@@ -1,12 +1,12 @@
--- `look::judged` meets its contract.
+-- `claim::judged` meets its contract.
 use mathlib.Core.Path.{_∙_}
 use mathlib.Core.Bool.{and-false}
 use mathlib.Core.Logic.{⊎-elim}
 use borrow.Author.Tests.{eq-eqb, ne-eqb}
 use Rattle.window.specs.Pick.{pick}
 use borrow.Author.Needs.{needs}
-use Rattle.look.proofs.judged.Statement.{statement}
-use Rattle.look.proofs.judged.Tie as tie
+use Rattle.claim.proofs.judged.Statement.{statement}
+use Rattle.claim.proofs.judged.Tie as tie
 
 returns : tie.Need-returns
 unfolding pick

@@ -1,7 +1,7 @@
--- `look::lacks` meets its contract.
+-- `claim::lacks` meets its contract.
 use borrow.Author.Tests.{lt-ltb, le-ltb}
-use Rattle.look.proofs.lacks.Statement.{statement}
-use Rattle.look.proofs.lacks.Tie as tie
+use Rattle.claim.proofs.lacks.Statement.{statement}
+use Rattle.claim.proofs.lacks.Tie as tie
 
 returns : tie.Need-returns
 returns c = rw (lt-ltb _ _ (c .if1 .taken))
