@@ -1,7 +1,7 @@
 -- What each of the writer's C functions answers and leaves: the operation's own definition, in words.
 use Prim.Native.Nat.{ℕ}
 use mathlib.Core.List.{List}
-use Rattle.writer.specs.Refusals.{leaveNo}
+use Rattle.writer_state.specs.Refusals.{leaveNo}
 use Rattle.writer.specs.Writing.{WriteOut, beginning, adding, finishing, polling}
 use Rattle.writer_words.specs.Words.{withWriter, writerBy}
 

@@ -1,6 +1,6 @@
 // The writer for C: four functions over eight words and lent bytes. include/orgnevis.h documents them.
 ghost use mathlib.Core.Path.{_≡_};
-ghost use Rattle.writer.specs.Refusals.{leaveNo};
+ghost use Rattle.writer_state.specs.Refusals.{leaveNo};
 ghost use Rattle.writer.specs.Writing.{polling};
 ghost use Rattle.orgnevis.specs.Writes.{begins, adds, finishes};
 
@@ -21,7 +21,7 @@ pub extern "C" fn orgnevis_begin(
     let next = begun.state;
     writer_words::write_writer(next, words);
     let leave = begun.leave;
-    writer::leave_no(leave)
+    writer_state::leave_no(leave)
 }
 
 // Writes the next piece of the payload. Answers 0, 3 or 4.
@@ -35,7 +35,7 @@ pub extern "C" fn orgnevis_piece(words: &mut [u64; 8], memory: &mut [u8], bytes:
     let next = added.state;
     writer_words::write_writer(next, words);
     let leave = added.leave;
-    writer::leave_no(leave)
+    writer_state::leave_no(leave)
 }
 
 // Writes the sum behind the payload. Answers 0, 3 or 5.
@@ -49,7 +49,7 @@ pub extern "C" fn orgnevis_finish(words: &mut [u64; 8], memory: &mut [u8]) -> u6
     let next = finished.state;
     writer_words::write_writer(next, words);
     let leave = finished.leave;
-    writer::leave_no(leave)
+    writer_state::leave_no(leave)
 }
 
 // Writes the MON-VER poll. Answers 0 or 2.
@@ -58,5 +58,5 @@ pub extern "C" fn orgnevis_poll(memory: &mut [u8]) -> u64
     ensures { λ r. ⌜ r ≡ leaveNo (polling (now (memory .entry)) .leave) ⌝ }
     ensures { λ _. ⌜ now (memory .exit) ≡ polling (now (memory .entry)) .memory ⌝ }
 {
-    writer::leave_no(writer::poll(memory))
+    writer_state::leave_no(writer::poll(memory))
 }

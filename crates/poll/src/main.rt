@@ -5,8 +5,8 @@ use libc::STDOUT_FILENO;
 use lines::LONGEST;
 use state::State;
 use window::Mode;
-use writer::Leave;
-use writer::Writer;
+use writer_state::Leave;
+use writer_state::Writer;
 
 const MAX: u16 = 240;
 
@@ -24,7 +24,7 @@ fn say_first(text: &[u8], n: usize) {
 // A refusal's number, or 0.
 fn say_leave(leave: Leave) {
     say(b" ");
-    io::print_decimal(STDOUT_FILENO, writer::leave_no(leave));
+    io::print_decimal(STDOUT_FILENO, writer_state::leave_no(leave));
 }
 
 // A byte in hex.

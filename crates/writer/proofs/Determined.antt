@@ -3,10 +3,10 @@ use mathlib.Core.Path.{_≡_, refl, sym, ap, _∙_}
 use mathlib.Core.List.{List, [], _∷_}
 use Prim.Native.Nat.{ℕ}
 use lib.ListN.{getD}
-use Rattle.writer.specs.declared.Refusal.the-variants.{TooLong, NoRoom, BadState, PieceTooLong, Early}
-use Rattle.writer.specs.declared.Leave.{Leave, the-variants.{Granted, Denied}}
+use Rattle.writer_state.specs.declared.Refusal.the-variants.{TooLong, NoRoom, BadState, PieceTooLong, Early}
+use Rattle.writer_state.specs.declared.Leave.{Leave, the-variants.{Granted, Denied}}
+use Rattle.writer_state.specs.Refusals.{leaveNo}
 use Rattle.writer.specs.declared.Written.{Written}
-use Rattle.writer.specs.Refusals.{leaveNo}
 use Rattle.writer.specs.Writing.{WriteOut, PollOut}
 use Rattle.writer.specs.Promises.{Writes, Polls}
 

@@ -3,10 +3,10 @@ use mathlib.Core.Path.{_≡_, refl}
 use mathlib.Core.List.{List}
 use Prim.Native.Nat.{ℕ}
 use lib.ListN.{length}
-use Rattle.writer.specs.declared.Writer.{Writer}
-use Rattle.writer.specs.declared.Refusal.{Refusal}
-use Rattle.writer.specs.declared.Leave.the-variants.{Denied}
-use Rattle.writer.specs.Refusals.{mayBegin, mayAdd, mayFinish}
+use Rattle.writer_state.specs.declared.Writer.{Writer}
+use Rattle.writer_state.specs.declared.Refusal.{Refusal}
+use Rattle.writer_state.specs.declared.Leave.the-variants.{Denied}
+use Rattle.writer_state.specs.Refusals.{mayBegin, mayAdd, mayFinish}
 use Rattle.writer.specs.Writing.{state, beginning, adding, finishing}
 use Rattle.writer.specs.Promises.{Writes}
 

@@ -3,9 +3,9 @@
 use mathlib.Core.Path.{_≡_}
 use Prim.Native.Nat.{ℕ}
 use mathlib.Core.List.{List}
-use Rattle.writer.specs.declared.Leave.{Leave}
+use Rattle.writer_state.specs.declared.Leave.{Leave}
+use Rattle.writer_state.specs.Refusals.{leaveNo}
 use Rattle.writer.specs.declared.Written.{Written}
-use Rattle.writer.specs.Refusals.{leaveNo}
 use Rattle.writer.specs.Writing.{WriteOut, PollOut}
 
 pub record Writes (is : WriteOut) (r : Written) (memory : List ℕ) : Type 0 where

@@ -4,10 +4,10 @@ use mathlib.Core.List.{List, [], _∷_}
 use lib.ListN.{length, take, drop}
 use lib.Seq.{paste}
 use Rattle.sum.specs.Sum.{sumOf}
-use Rattle.writer.specs.declared.Writer.{Writer}
-use Rattle.writer.specs.declared.Leave.{Leave, the-variants.{Granted, Denied}}
+use Rattle.writer_state.specs.declared.Writer.{Writer}
+use Rattle.writer_state.specs.declared.Leave.{Leave, the-variants.{Granted, Denied}}
+use Rattle.writer_state.specs.Refusals.{mayBegin, mayPoll, mayAdd, mayFinish}
 use Rattle.writer.specs.declared.Written.{Written}
-use Rattle.writer.specs.Refusals.{mayBegin, mayPoll, mayAdd, mayFinish}
 
 pub record WriteOut : Type 0 where
   pub result : Written

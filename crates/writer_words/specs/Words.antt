@@ -3,7 +3,7 @@ use Prim.Native.Nat.{ℕ}
 use mathlib.Core.List.{List, [], _∷_}
 use lib.ListN.{getD}
 use lib.Seq.{sets}
-use Rattle.writer.specs.declared.Writer.{Writer}
+use Rattle.writer_state.specs.declared.Writer.{Writer}
 
 -- a writer: three words, in the order of the header; those after them are left as they are
 abbrev pub writerWords : Writer → List ℕ

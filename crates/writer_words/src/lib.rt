@@ -1,7 +1,7 @@
 // The words in which a writer's state crosses to C. include/orgnevis.h says which word is what.
 ghost use mathlib.Core.Path.{_≡_};
 ghost use Rattle.writer_words.specs.Words.{withWriter, writerBy};
-use writer::Writer;
+use writer_state::Writer;
 
 // The writer that words say.
 pub fn read_writer(words: &[u64; 8]) -> Writer

@@ -1,8 +1,8 @@
 -- `writer::begin` meets its contract.
 use mathlib.Core.Path.{refl, sym, _∙_}
 use native.Mathlib.Omega.{arith}
+use Rattle.writer_state.proofs.Granted.{begin-granted}
 use Rattle.writer.specs.Writing.{beginning}
-use Rattle.writer.proofs.Granted.{begin-granted}
 use Rattle.writer.proofs.Refused.{begin-refused}
 use borrow.Author.Needs.{needs}
 use Rattle.writer.proofs.begin.Statement.{statement}

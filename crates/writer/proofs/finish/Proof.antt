@@ -5,8 +5,8 @@ use lib.ListN.{take, drop}
 use Rattle.sum.specs.declared.Sums.{Sums}
 use Rattle.sum.specs.Sum.{sumOn, sumOf}
 use native.Mathlib.Omega.{arith}
+use Rattle.writer_state.proofs.Granted.{finish-granted}
 use Rattle.writer.specs.Writing.{finishing}
-use Rattle.writer.proofs.Granted.{finish-granted}
 use Rattle.writer.proofs.Refused.{finish-refused}
 use borrow.Author.Needs.{needs}
 use Rattle.writer.proofs.finish.Statement.{statement}

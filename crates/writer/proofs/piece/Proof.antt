@@ -1,8 +1,8 @@
 -- `writer::piece` meets its contract.
 use mathlib.Core.Path.{refl, sym, _∙_}
 use native.Mathlib.Omega.{arith}
+use Rattle.writer_state.proofs.Granted.{add-granted}
 use Rattle.writer.specs.Writing.{adding}
-use Rattle.writer.proofs.Granted.{add-granted}
 use Rattle.writer.proofs.Refused.{add-refused}
 use borrow.Author.Needs.{needs}
 use Rattle.writer.proofs.piece.Statement.{statement}

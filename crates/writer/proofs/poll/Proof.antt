@@ -2,7 +2,7 @@
 use mathlib.Core.Path.{refl}
 use borrow.Author.Tests.{lt-ltb, le-ltb}
 use Rattle.window.specs.Pick.{pick}
-use Rattle.writer.specs.Refusals.{mayPoll}
+use Rattle.writer_state.specs.Refusals.{mayPoll}
 use Rattle.writer.specs.Writing.{polling}
 use borrow.Author.Needs.{needs}
 use Rattle.writer.proofs.poll.Statement.{statement}

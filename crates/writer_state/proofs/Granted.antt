@@ -6,9 +6,9 @@ use native.Mathlib.Omega.{arith}
 use borrow.Author.Tests.{eqb-true, ltb-false, le-ltb, eq-eqb, not-false}
 use Rattle.window.proofs.Pick.{by-pick, pick-false}
 use Rattle.state.proofs.Granted.{any-next, none-of}
-use Rattle.writer.specs.declared.Writer.{Writer}
-use Rattle.writer.specs.declared.Leave.{Leave, the-variants.{Granted}}
-use Rattle.writer.specs.Refusals.{mayBegin, faults, isBad, mayAdd, mayFinish}
+use Rattle.writer_state.specs.declared.Writer.{Writer}
+use Rattle.writer_state.specs.declared.Leave.{Leave, the-variants.{Granted}}
+use Rattle.writer_state.specs.Refusals.{mayBegin, faults, isBad, mayAdd, mayFinish}
 
 -- ---- beginning
 

@@ -36,8 +36,8 @@ use Rattle.stream.specs.Frames.{bodyOf, handOut}
 use Rattle.stream.proofs.Cuts.{refused-still}
 use Rattle.stream.proofs.Framed.{body-at}
 use Rattle.stream.proofs.Said.{frame-said}
-use Rattle.writer.specs.ComesBack.{bodyAt, GivesIt, AFrameComesBack, WhatIsWrittenComesBack, AFrameIsHeardAlone}
-use Rattle.writer.proofs.Filled.{every-cutting-writes-the-frame}
+use Rattle.written.specs.ComesBack.{bodyAt, GivesIt, AFrameComesBack, WhatIsWrittenComesBack, AFrameIsHeardAlone}
+use Rattle.written.proofs.Filled.{every-cutting-writes-the-frame}
 
 module _ (mode : Mode) (max : ℕ) (carry : List ℕ) (class id : ℕ) (payload : List ℕ)
     (small : length carry ≤ 16384) (short : length payload ≤ 16376) (fits : length payload ≤ max) where

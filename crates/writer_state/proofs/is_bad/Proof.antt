@@ -1,12 +1,12 @@
--- `writer::is_bad` meets its contract: past each test that fails, those that follow decide.
+-- `writer_state::is_bad` meets its contract: past each test that fails, those that follow decide.
 use mathlib.Core.Path.{sym, ap, _∙_}
 use mathlib.Core.Bool.{not}
 use borrow.Author.Tests.{lt-ltb, le-ltb, eq-eqb, ne-eqb}
 use Rattle.state.proofs.Granted.{any-here, any-next, any-last}
-use Rattle.writer.specs.Refusals.{isBad}
+use Rattle.writer_state.specs.Refusals.{isBad}
 use borrow.Author.Needs.{needs}
-use Rattle.writer.proofs.is_bad.Statement.{statement}
-use Rattle.writer.proofs.is_bad.Tie as tie
+use Rattle.writer_state.proofs.is_bad.Statement.{statement}
+use Rattle.writer_state.proofs.is_bad.Tie as tie
 
 returns : tie.Need-returns
 unfolding isBad

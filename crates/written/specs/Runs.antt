@@ -5,10 +5,10 @@ use Prim.Native.Nat.{ℕ, _+_, _≤_}
 use lib.ListN.{length, drop}
 use Rattle.stream.specs.Runs.{joined}
 use Rattle.stream.specs.Interface.{frame}
-use Rattle.writer.specs.declared.Writer.{Writer}
-use Rattle.writer.specs.declared.Refusal.{Refusal}
-use Rattle.writer.specs.declared.Leave.the-variants.{Granted, Denied}
+use Rattle.writer_state.specs.declared.Writer.{Writer}
+use Rattle.writer_state.specs.declared.Refusal.{Refusal}
+use Rattle.writer_state.specs.declared.Leave.the-variants.{Granted, Denied}
 use Rattle.writer.specs.Writing.{WriteOut, beginning, adding, finishing, pollBytes}
 
 -- ---- the memory untouched between calls: each call is handed the state and the memory as the call before left them
 

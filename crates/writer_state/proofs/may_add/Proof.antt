@@ -1,14 +1,14 @@
--- `writer::may_add` meets its contract: past the state's test no sum wraps, and the room left for the payload decides.
+-- `writer_state::may_add` meets its contract: past the state's test no sum wraps, and the room left for the payload decides.
 use mathlib.Core.Path.{sym, _∙_}
 use Prim.Native.Nat.{_+_, _≤_, _<_}
 use native.Mathlib.Omega.{arith}
 use borrow.Author.Tests.{lt-ltb, le-ltb}
 use Rattle.window.specs.Pick.{pick}
-use Rattle.writer.specs.Refusals.{mayAdd}
-use Rattle.writer.proofs.Granted.{sound-of}
+use Rattle.writer_state.specs.Refusals.{mayAdd}
+use Rattle.writer_state.proofs.Granted.{sound-of}
 use borrow.Author.Needs.{needs}
-use Rattle.writer.proofs.may_add.Statement.{statement}
-use Rattle.writer.proofs.may_add.Tie as tie
+use Rattle.writer_state.proofs.may_add.Statement.{statement}
+use Rattle.writer_state.proofs.may_add.Tie as tie
 
 is-bad-requires : tie.Need-is-bad-requires
 is-bad-requires c κs = search needs

@@ -17,8 +17,8 @@ use Rattle.stream.specs.Runs.{between, Follows, joined}
 use Rattle.stream.specs.Demand.{fresh}
 use Rattle.stream.specs.Interface.{frame}
 use Rattle.stream.specs.Frames.{bodyOf, handOut}
 use Rattle.writer.specs.Writing.{beginning}
-use Rattle.writer.specs.Runs.{written}
+use Rattle.written.specs.Runs.{written}
 
 -- the chunk is opened, stepped until need more, and closed
 

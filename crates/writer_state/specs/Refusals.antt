@@ -5,9 +5,9 @@ use mathlib.Core.List.{List, [], _∷_}
 use lib.Dec.{ltb, eqb}
 use Rattle.window.specs.Pick.{pick}
 use Rattle.state.specs.Refusals.{anyOf}
-use Rattle.writer.specs.declared.Writer.{Writer}
-use Rattle.writer.specs.declared.Refusal.{Refusal, the-variants.{TooLong, NoRoom, BadState, PieceTooLong, Early}}
-use Rattle.writer.specs.declared.Leave.{Leave, the-variants.{Granted, Denied}}
+use Rattle.writer_state.specs.declared.Writer.{Writer}
+use Rattle.writer_state.specs.declared.Refusal.{Refusal, the-variants.{TooLong, NoRoom, BadState, PieceTooLong, Early}}
+use Rattle.writer_state.specs.declared.Leave.{Leave, the-variants.{Granted, Denied}}
 
 -- numbered in 02's order; a call that is not refused has 0
 abbrev pub refusalNo : Refusal → ℕ

@@ -9,12 +9,12 @@ use lib.Seq.{take-length, take-at, drop-append-add, drop-drop}
 use Rattle.stream.specs.Runs.{joined}
 use Rattle.stream.specs.Interface.{loop, checksum, summed, frame}
 use Rattle.stream.proofs.Checksum.{checksum-is}
-use Rattle.writer.specs.declared.Writer.{Writer}
-use Rattle.writer.specs.declared.Leave.{Leave, the-variants.{Granted, Denied}}
-use Rattle.writer.specs.Refusals.{mayBegin, mayAdd, mayFinish}
+use Rattle.writer_state.specs.declared.Writer.{Writer}
+use Rattle.writer_state.specs.declared.Leave.{Leave, the-variants.{Granted, Denied}}
+use Rattle.writer_state.specs.Refusals.{mayBegin, mayAdd, mayFinish}
 use Rattle.writer.specs.Writing.{WriteOut, put, state, head, beginOn, beginning, addOn, adding, check, finishOn, finishing}
-use Rattle.writer.specs.Runs.{Fills, done, added, notAdded, notBegun, notFinished, OnlyTheFrame, AllGranted, EveryCuttingIsTaken, written, EveryCuttingWritesTheFrame, PollIsAFrame}
-use Rattle.writer.proofs.Granted.{Fits, grant-begin, Sound, grant-add, finish-granted, grant-finish}
+use Rattle.writer_state.proofs.Granted.{Fits, grant-begin, Sound, grant-add, finish-granted, grant-finish}
+use Rattle.written.specs.Runs.{Fills, done, added, notAdded, notBegun, notFinished, OnlyTheFrame, AllGranted, EveryCuttingIsTaken, written, EveryCuttingWritesTheFrame, PollIsAFrame}
 
 pub poll-is-a-frame : PollIsAFrame
 unfolding loop

@@ -1,10 +1,10 @@
--- `writer::may_begin` meets its contract.
+-- `writer_state::may_begin` meets its contract.
 use borrow.Author.Tests.{lt-ltb, le-ltb}
 use Rattle.window.specs.Pick.{pick}
-use Rattle.writer.specs.Refusals.{mayBegin}
+use Rattle.writer_state.specs.Refusals.{mayBegin}
 use borrow.Author.Needs.{needs}
-use Rattle.writer.proofs.may_begin.Statement.{statement}
-use Rattle.writer.proofs.may_begin.Tie as tie
+use Rattle.writer_state.proofs.may_begin.Statement.{statement}
+use Rattle.writer_state.proofs.may_begin.Tie as tie
 
 returns : tie.Need-returns
 unfolding mayBegin pick

@@ -1,11 +1,11 @@
--- `writer::may_finish` meets its contract.
+-- `writer_state::may_finish` meets its contract.
 use mathlib.Core.Path.{sym, _∙_}
 use borrow.Author.Tests.{lt-ltb, le-ltb}
 use Rattle.window.specs.Pick.{pick}
-use Rattle.writer.specs.Refusals.{mayFinish}
+use Rattle.writer_state.specs.Refusals.{mayFinish}
 use borrow.Author.Needs.{needs}
-use Rattle.writer.proofs.may_finish.Statement.{statement}
-use Rattle.writer.proofs.may_finish.Tie as tie
+use Rattle.writer_state.proofs.may_finish.Statement.{statement}
+use Rattle.writer_state.proofs.may_finish.Tie as tie
 
 is-bad-requires : tie.Need-is-bad-requires
 is-bad-requires c κs = search needs
