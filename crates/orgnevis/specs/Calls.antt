@@ -8,8 +8,9 @@ use Rattle.taking.specs.declared.Side.the-variants.{Carry, Chunk}
 use Rattle.taking.specs.View.{viewLeave}
 use Rattle.framer.specs.Operations.{start, opening, closing}
 use Rattle.framer.specs.Step.{step}
+use Rattle.words.specs.declared.ModeRead.{ModeRead, the-variants.{Known, NoMode}}
 use Rattle.words.specs.declared.Read.{Read, the-variants.{Is, NoState}}
-use Rattle.words.specs.Words.{withState, modeBy, noMode, readState, plainWords, answerWords, reportWords, closeWords}
+use Rattle.words.specs.Words.{withState, readMode, readState, plainWords, answerWords, reportWords, closeWords}
 
 -- a number answered, and the state's words
 pub record Numbered : Type 0 where
@@ -17,10 +18,12 @@ pub record Numbered : Type 0 where
   pub words : List ℕ
 
 -- a mode's number that isn't one is answered by 8, and nothing is written
+abbrev pub startRead : List ℕ → ℕ → ℕ → ModeRead → Numbered
+startRead words carryLen max NoMode = record { number = 8; words = words }
+startRead words carryLen max (Known mode) = let o = start mode max carryLen in record { number = leaveNo (o .leave); words = withState (o .state) words }
+
 unfoldable pub starts : List ℕ → ℕ → ℕ → ℕ → Numbered
-starts words carryLen mode max =
-    pick (noMode mode) (record { number = 8; words = words })
-    (let o = start (modeBy mode) max carryLen in record { number = leaveNo (o .leave); words = withState (o .state) words })
+starts words carryLen mode max = startRead words carryLen max (readMode mode)
 
 abbrev pub openRead : List ℕ → List ℕ → List ℕ → Read → Numbered
 openRead words carry chunk NoState = record { number = 2; words = words }

@@ -7,6 +7,7 @@ ghost use lib.ListN.{length};
 ghost use Rattle.orgnevis.specs.Calls.{starts, opens, steps, closes, views};
 use state::Leave;
 use taking::Side;
+use words::ModeRead;
 use words::Read;
 
 // A fresh parser. Answers 0, 1, or 8 for a mode's number that isn't one, which writes nothing.
@@ -15,14 +16,17 @@ pub extern "C" fn orgnevis_start(state: &mut [u64; 24], carry: &[u8], mode: u64,
     ensures { λ r. ⌜ r ≡ starts (now (state .entry)) (length (now (carry .entry))) mode max .number ⌝ }
     ensures { λ _. ⌜ now (state .exit) ≡ starts (now (state .entry)) (length (now (carry .entry))) mode max .words ⌝ }
 {
-    if words::no_mode(mode) {
-        return 8;
+    let read = words::read_mode(mode);
+    match read {
+        ModeRead::NoMode => 8,
+        ModeRead::Known(mode) => {
+            let started = framer::start(carry, mode, max);
+            let next = started.state;
+            words::write_state(next, state);
+            let leave = started.leave;
+            words::leave_no(leave)
+        }
     }
-    let started = framer::start(carry, words::mode_by(mode), max);
-    let next = started.state;
-    words::write_state(next, state);
-    let leave = started.leave;
-    words::leave_no(leave)
 }
 
 // Opens an idle state on a chunk. Answers 0, 2, 3 or 5.

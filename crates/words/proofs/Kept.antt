@@ -1,7 +1,7 @@
 -- The words that an operation does not write are its state's all the same: they say what was read.
 use mathlib.Core.Path.{_≡_, refl, sym, ap, _∙_}
 use mathlib.Core.Logic.{_≢_}
-use mathlib.Core.Bool.{true, false}
+use mathlib.Core.Bool.{true}
 use mathlib.Core.List.{List, [], _∷_}
 use Prim.Native.Nat.{ℕ, suc}
 use native.Mathlib.Omega.{arith}
@@ -20,8 +20,8 @@ use Rattle.framer.specs.Operations.{openOn, opening, closeOn, closing}
 use Rattle.framer.specs.Step.{stepOn, step}
 use Rattle.framer.proofs.Account.{step-keeps}
 use Rattle.words.specs.declared.Read.the-variants.{Is}
-use Rattle.words.specs.Words.{modeNo, openNo, noState, stateBy, readState, withState, openedWords, steppedWords, closedWords}
-use Rattle.words.proofs.Refused.{set-same, read-is, mode-word, open-word, same-words}
+use Rattle.words.specs.Words.{modeNo, openNo, stateBy, readState, withState, openedWords, steppedWords, closedWords}
+use Rattle.words.proofs.Refused.{Said, set-same, read-is, mode-word, open-word, same-words}
 
 -- ---- what an operation keeps of its state
 
@@ -85,30 +85,30 @@ module _ (s : State) (carry chunk : List ℕ) where
 -- ---- its words, over those that it was read from
 
 module _ (w : List ℕ) (s : State) (read : readState w ≡ Is s) where
-  none : noState w ≡ false
-  none = read-is w s read .0
+  said : Said w s
+  said = read-is w s read
 
   pub same : withState s w ≡ w
-  same = rw (← (read-is w s read .1)) (same-words w none)
+  same = rw (← (said .state)) (same-words w s said)
 
   first-words : (t : State) → setupOf t ≡ setupOf s → set (set (set w 0 (modeNo (t .mode))) 1 (t .max)) 2 (t .cap) ≡ w
   first-words t h =
-      let k : setupOf t ≡ setupOf (stateBy w) = h ∙ ap setupOf (sym (read-is w s read .1)) in
-      let m : t .mode ≡ stateBy w .mode = ap (λ (x : Setup). x .mode) k in
+      let k : setupOf t ≡ setupOf (stateBy (s .mode) w) = h ∙ ap setupOf (sym (said .state)) in
+      let m : t .mode ≡ s .mode = ap (λ (x : Setup). x .mode) k in
       let x : t .max ≡ getD w 1 0 = ap (λ (x : Setup). x .max) k in
       let c : t .cap ≡ getD w 2 0 = ap (λ (x : Setup). x .cap) k in
-      rw (m, x, c, mode-word w none, set-same w 0, set-same w 1, set-same w 2)
+      rw (m, x, c, mode-word w s said, set-same w 0, set-same w 1, set-same w 2)
 
   module _ (carry chunk : List ℕ) where
     pub opened-words : (t : State) → Opening s carry chunk t → withState t w ≡ openedWords t w
     opened-words t h =
-        let l : t .live ≡ getD w 3 0 = h .1 .0 ∙ ap (λ (x : State). x .live) (sym (read-is w s read .1)) in
+        let l : t .live ≡ getD w 3 0 = h .1 .0 ∙ ap (λ (x : State). x .live) (sym (said .state)) in
         rw (first-words t (h .0), l, set-same w 3, h .1 .1)
 
     pub stepped-words : (t : State) → Stepping s carry chunk t → withState t w ≡ steppedWords t w
     stepped-words t h =
-        let back = sym (read-is w s read .1) in
-        let o : openNo (t .«open») ≡ getD w 6 0 = ap openNo (h .1 .0 ∙ ap (λ (x : State). x .«open») back) ∙ open-word w none in
+        let back = sym (said .state) in
+        let o : openNo (t .«open») ≡ getD w 6 0 = ap openNo (h .1 .0 ∙ ap (λ (x : State). x .«open») back) ∙ open-word w s said in
         let c : t .chunk ≡ getD w 7 0 = h .1 .1 ∙ ap (λ (x : State). x .chunk) back in
         rw (
           first-words t (h .0),

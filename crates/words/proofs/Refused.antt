@@ -1,19 +1,19 @@
 -- A refused call hands the state back, and a state that was read and is written back leaves its words as they were.
-use mathlib.Core.Path.{_≡_, refl, sym, ap}
+use mathlib.Core.Path.{_≡_, refl, sym, ap, _∙_}
 use mathlib.Core.Bool.{Bool, true, false}
 use mathlib.Core.List.{List, [], _∷_}
 use Prim.Native.Nat.{ℕ, zero, suc, _≤_}
 use native.Mathlib.Omega.{arith}
 use lib.ListN.{getD, set}
 use lib.Dec.{ltb, eqb}
-use borrow.Author.Tests.{ltb-false, eqb-true, eqb-false, not-false}
-use Rattle.window.specs.declared.Mode.{Mode}
-use Rattle.window.specs.Pick.{pick}
+use borrow.Author.Tests.{ltb-false, eqb-true, eqb-false}
+use Rattle.window.specs.declared.Mode.{Mode, the-variants.{One, Two, Three}}
 use Rattle.window.proofs.Pick.{by-pick}
 use Rattle.state.specs.declared.State.{State}
 use Rattle.state.proofs.Granted.{none-of}
-use Rattle.words.specs.declared.Read.{Read, the-variants.{Is}}
-use Rattle.words.specs.Words.{modeNo, openNo, withState, modeBy, noMode, noState, stateBy, readState}
+use Rattle.words.specs.declared.ModeRead.{ModeRead, the-variants.{Known, NoMode}}
+use Rattle.words.specs.declared.Read.the-variants.{Is}
+use Rattle.words.specs.Words.{modeNo, openNo, withState, readMode, maxOrOpenTooBig, stateBy, stateIn, readState}
 
 -- storing what stands there
 pub set-same : (l : List ℕ) (i : ℕ) → set l i (getD l i 0) ≡ l
@@ -22,22 +22,20 @@ set-same [] (suc i) = refl
 set-same (x ∷ l) zero = refl
 set-same (x ∷ l) (suc i) = ap (λ (r : List ℕ). x ∷ r) (set-same l i)
 
--- two choices by one test
-both : (P : Mode → Bool → Type 0) (t : Bool) {x y : Mode} {b c : Bool} → (t ≡ true → P x b) → P y c → P (pick t x y) (pick t b c)
-unfolding pick
-both P true f g = f refl
-both P false f g = g
-
 -- each of the six numbers is its mode's, and no other is one
-mode-back : (n : ℕ) → noMode n ≡ false → modeNo (modeBy n) ≡ n
-mode-back n =
-    let P : Mode → Bool → Type 0 = λ m b. b ≡ false → modeNo m ≡ n in
-    both P (eqb n 1) (λ t _. sym (eqb-true n 1 t))
-    (both P (eqb n 2) (λ t _. sym (eqb-true n 2 t))
-    (both P (eqb n 3) (λ t _. sym (eqb-true n 3 t))
-    (both P (eqb n 17) (λ t _. sym (eqb-true n 17 t))
-    (both P (eqb n 18) (λ t _. sym (eqb-true n 18 t))
-    (λ e. sym (eqb-true n 19 (not-false _ e)))))))
+mode-back : (n : ℕ) (m : Mode) → readMode n ≡ Known m → modeNo m ≡ n
+mode-back n m =
+    let P : ModeRead → Type 0 = λ r. r ≡ Known m → modeNo m ≡ n in
+    by-pick P (λ t e. known (One false) e ∙ sym (eqb-true n 1 t))
+    (λ _. by-pick P (λ t e. known (Two false) e ∙ sym (eqb-true n 2 t))
+    (λ _. by-pick P (λ t e. known (Three false) e ∙ sym (eqb-true n 3 t))
+    (λ _. by-pick P (λ t e. known (One true) e ∙ sym (eqb-true n 17 t))
+    (λ _. by-pick P (λ t e. known (Two true) e ∙ sym (eqb-true n 18 t))
+    (λ _. by-pick P (λ t e. known (Three true) e ∙ sym (eqb-true n 19 t))
+    (λ _ e. let z : _≡_ {A = ℕ} 0 1 = cc in absurd (omega arith)))))))
+  where
+    known : (k : Mode) → Known k ≡ Known m → modeNo m ≡ modeNo k
+    known k e = let h : k ≡ m = cc in ap modeNo (sym h)
 
 open-back : (n : ℕ) → n ≤ 1 → openNo (eqb n 1) ≡ n
 open-back n h = go (eqb n 1) refl
@@ -47,19 +45,30 @@ open-back n h = go (eqb n 1) refl
     go false e = let k = eqb-false n 1 e in omega arith
 
 -- words that a state was read from are one's, and it is what they say
-pub read-is : (w : List ℕ) (s : State) → readState w ≡ Is s → (noState w ≡ false) × (stateBy w ≡ s)
-unfolding readState
-read-is w s =
-    by-pick (λ r. r ≡ Is s → (noState w ≡ false) × (stateBy w ≡ s)) (λ _ e. let z : _≡_ {A = ℕ} 0 1 = cc in absurd (omega arith)) (λ n e. (n, cc))
+pub record Said (w : List ℕ) (s : State) : Type 0 where
+  pub small : maxOrOpenTooBig w ≡ false
+  pub mode : readMode (getD w 0 0) ≡ Known (s .mode)
+  pub state : stateBy (s .mode) w ≡ s
 
-module _ (w : List ℕ) (e : noState w ≡ false) where
-  pub mode-word : modeNo (modeBy (getD w 0 0)) ≡ getD w 0 0
-  mode-word = mode-back (getD w 0 0) (none-of (noMode (getD w 0 0) ∷ ltb 65535 (getD w 1 0) ∷ ltb 1 (getD w 6 0) ∷ []) e .0)
+pub read-is : (w : List ℕ) (s : State) → readState w ≡ Is s → Said w s
+unfolding readState
+read-is w s = by-pick (λ r. r ≡ Is s → Said w s) (λ _ e. let z : _≡_ {A = ℕ} 0 1 = cc in absurd (omega arith)) (λ n. go (readMode (getD w 0 0)) refl n)
+  where
+    go : (r : ModeRead) → readMode (getD w 0 0) ≡ r → maxOrOpenTooBig w ≡ false → stateIn w r ≡ Is s → Said w s
+    go NoMode k n e = let z : _≡_ {A = ℕ} 0 1 = cc in absurd (omega arith)
+    go (Known m) k n e =
+        let b : stateBy m w ≡ s = cc in
+        let h : m ≡ s .mode = ap (λ (x : State). x .mode) b in
+        record { small = n; mode = k ∙ ap Known h; state = ap (λ (x : Mode). stateBy x w) (sym h) ∙ b }
+
+module _ (w : List ℕ) (s : State) (h : Said w s) where
+  pub mode-word : modeNo (s .mode) ≡ getD w 0 0
+  mode-word = mode-back (getD w 0 0) (s .mode) (h .mode)
 
   pub open-word : openNo (eqb (getD w 6 0) 1) ≡ getD w 6 0
-  open-word = open-back (getD w 6 0) (ltb-false 1 (getD w 6 0) (none-of (noMode (getD w 0 0) ∷ ltb 65535 (getD w 1 0) ∷ ltb 1 (getD w 6 0) ∷ []) e .1 .1 .0))
+  open-word = open-back (getD w 6 0) (ltb-false 1 (getD w 6 0) (none-of (ltb 65535 (getD w 1 0) ∷ ltb 1 (getD w 6 0) ∷ []) (h .small) .1 .0))
 
-  pub same-words : withState (stateBy w) w ≡ w
+  pub same-words : withState (stateBy (s .mode) w) w ≡ w
   same-words =
-      let s : (i : ℕ) → set w i (getD w i 0) ≡ w = set-same w in
-      rw (mode-word, open-word) (simp (s 0, s 1, s 2, s 3, s 4, s 5, s 6, s 7, s 8))
+      let k : (i : ℕ) → set w i (getD w i 0) ≡ w = set-same w in
+      rw (mode-word, open-word) (simp (k 0, k 1, k 2, k 3, k 4, k 5, k 6, k 7, k 8))

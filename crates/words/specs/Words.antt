@@ -1,6 +1,6 @@
 -- The words in which a state and an answer cross to C: include/orgnevis.h says the same to a C programmer.
 use Prim.Native.Nat.{ℕ}
-use mathlib.Core.Bool.{Bool, true, false, not}
+use mathlib.Core.Bool.{Bool, true, false}
 use mathlib.Core.List.{List, [], _∷_}
 use lib.ListN.{getD, replicate}
 use lib.Seq.{sets}
@@ -13,6 +13,7 @@ use Rattle.taking.specs.declared.Place.{Place}
 use Rattle.framer.specs.declared.Answer.{Answer, the-variants.{UbxFrame, RtcmFrame, Sentence, WrongSum, NoRoom, NeedMore, Refused, WrongParity}}
 use Rattle.framer.specs.declared.Closed.{Closed}
 use Rattle.framer.specs.Answers.{sideNo}
+use Rattle.words.specs.declared.ModeRead.{ModeRead, the-variants.{Known, NoMode}}
 use Rattle.words.specs.declared.Read.{Read, the-variants.{Is, NoState}}
 
 -- ---- a state: nine words, in the order of the header; those after them are left as they are
@@ -47,31 +48,24 @@ steppedWords s words = sets (sets words 3 (s .live ∷ s .off ∷ s .used ∷ []
 abbrev pub closedWords : ℕ → List ℕ → List ℕ
 closedWords kept words = sets words 3 (kept ∷ 0 ∷ 0 ∷ 0 ∷ 0 ∷ 0 ∷ [])
 
--- a mode's number, and words that no state has: another mode, MAX over 65,535, open not 0 or 1
-abbrev pub modeBy : ℕ → Mode
-modeBy n =
-    pick (eqb n 1) (One false)
-    (pick (eqb n 2) (Two false)
-    (pick (eqb n 3) (Three false)
-    (pick (eqb n 17) (One true)
-    (pick (eqb n 18) (Two true)
-    (Three true)))))
+-- the mode of a number, if it is one's
+abbrev pub readMode : ℕ → ModeRead
+readMode n =
+    pick (eqb n 1) (Known (One false))
+    (pick (eqb n 2) (Known (Two false))
+    (pick (eqb n 3) (Known (Three false))
+    (pick (eqb n 17) (Known (One true))
+    (pick (eqb n 18) (Known (Two true))
+    (pick (eqb n 19) (Known (Three true))
+    NoMode)))))
 
-abbrev pub noMode : ℕ → Bool
-noMode n =
-    pick (eqb n 1) false
-    (pick (eqb n 2) false
-    (pick (eqb n 3) false
-    (pick (eqb n 17) false
-    (pick (eqb n 18) false
-    (not (eqb n 19))))))
+-- words that no state has, whatever its mode: MAX over 65,535, open not 0 or 1
+abbrev pub maxOrOpenTooBig : List ℕ → Bool
+maxOrOpenTooBig words = anyOf (ltb 65535 (getD words 1 0) ∷ ltb 1 (getD words 6 0) ∷ [])
 
-abbrev pub noState : List ℕ → Bool
-noState words = anyOf (noMode (getD words 0 0) ∷ ltb 65535 (getD words 1 0) ∷ ltb 1 (getD words 6 0) ∷ [])
-
-abbrev pub stateBy : List ℕ → State
-stateBy words = record {
-  mode = modeBy (getD words 0 0);
+abbrev pub stateBy : Mode → List ℕ → State
+stateBy mode words = record {
+  mode = mode;
   max = getD words 1 0;
   cap = getD words 2 0;
   live = getD words 3 0;
@@ -82,8 +76,12 @@ stateBy words = record {
   part = getD words 8 0;
 }
 
+abbrev pub stateIn : List ℕ → ModeRead → Read
+stateIn words NoMode = NoState
+stateIn words (Known mode) = Is (stateBy mode words)
+
 unfoldable pub readState : List ℕ → Read
-readState words = pick (noState words) NoState (Is (stateBy words))
+readState words = pick (maxOrOpenTooBig words) NoState (stateIn words (readMode (getD words 0 0)))
 
 -- ---- a step's answer: eight words
 

@@ -2,7 +2,7 @@
 ghost use mathlib.Core.Path.{_≡_};
 ghost use Rattle.state.specs.Refusals.{leaveNo, refusalNo};
 ghost use Rattle.framer.specs.Answers.{sideNo};
-ghost use Rattle.words.specs.Words.{modeNo, openNo, modeBy, noMode, noState, readState, withState, openedWords, steppedWords, closedWords, frameWords, plainWords, wrongWords, answerWords, reportWords};
+ghost use Rattle.words.specs.Words.{modeNo, openNo, readMode, maxOrOpenTooBig, readState, withState, openedWords, steppedWords, closedWords, frameWords, plainWords, wrongWords, answerWords, reportWords};
 use framer::Answer;
 use state::Leave;
 use state::Refusal;
@@ -17,6 +17,12 @@ pub enum Read {
     NoState,
 }
 
+// A mode read from a number, where that is a mode's.
+pub enum ModeRead {
+    Known(Mode),
+    NoMode,
+}
+
 fn mode_no(mode: Mode) -> u64
     ensures { λ r. ⌜ r ≡ modeNo mode ⌝ }
 {
@@ -27,48 +33,35 @@ fn mode_no(mode: Mode) -> u64
     }
 }
 
-// The mode of a number that is one.
-pub fn mode_by(n: u64) -> Mode
-    ensures { λ r. ⌜ r ≡ modeBy n ⌝ }
+// The mode of a number, if it is one's.
+pub fn read_mode(n: u64) -> ModeRead
+    ensures { λ r. ⌜ r ≡ readMode n ⌝ }
 {
     if n == 1 {
-        return Mode::One(false);
+        let mode = Mode::One(false);
+        return ModeRead::Known(mode);
     }
     if n == 2 {
-        return Mode::Two(false);
+        let mode = Mode::Two(false);
+        return ModeRead::Known(mode);
     }
     if n == 3 {
-        return Mode::Three(false);
+        let mode = Mode::Three(false);
+        return ModeRead::Known(mode);
     }
     if n == 17 {
-        return Mode::One(true);
+        let mode = Mode::One(true);
+        return ModeRead::Known(mode);
     }
     if n == 18 {
-        return Mode::Two(true);
+        let mode = Mode::Two(true);
+        return ModeRead::Known(mode);
     }
-    Mode::Three(true)
-}
-
-// Whether a number is no mode's.
-pub fn no_mode(n: u64) -> bool
-    ensures { λ r. ⌜ r ≡ noMode n ⌝ }
-{
-    if n == 1 {
-        return false;
+    if n == 19 {
+        let mode = Mode::Three(true);
+        return ModeRead::Known(mode);
     }
-    if n == 2 {
-        return false;
-    }
-    if n == 3 {
-        return false;
-    }
-    if n == 17 {
-        return false;
-    }
-    if n == 18 {
-        return false;
-    }
-    n != 19
+    ModeRead::NoMode
 }
 
 fn open_no(open: bool) -> u64
@@ -109,13 +102,10 @@ pub fn leave_no(leave: Leave) -> u64
     }
 }
 
-// Whether words are no state's: another mode, MAX over 65,535, open not 0 or 1.
-fn no_state(words: &[u64; 24]) -> bool
-    ensures { λ r. ⌜ r ≡ noState (now (words .entry)) ⌝ }
+// Whether words are no state's, whatever its mode: MAX over 65,535, open not 0 or 1.
+fn max_or_open_too_big(words: &[u64; 24]) -> bool
+    ensures { λ r. ⌜ r ≡ maxOrOpenTooBig (now (words .entry)) ⌝ }
 {
-    if no_mode(words[0]) {
-        return true;
-    }
     if 65535 < words[1] {
         return true;
     }
@@ -126,22 +116,27 @@ fn no_state(words: &[u64; 24]) -> bool
 pub fn read_state(words: &[u64; 24]) -> Read
     ensures { λ r. ⌜ r ≡ readState (now (words .entry)) ⌝ }
 {
-    if no_state(words) {
+    if max_or_open_too_big(words) {
         return Read::NoState;
     }
-    let mode = mode_by(words[0]);
-    let state = State {
-        mode,
-        max: words[1] as u16,
-        cap: words[2] as usize,
-        live: words[3] as usize,
-        off: words[4] as usize,
-        used: words[5] as usize,
-        open: words[6] == 1,
-        chunk: words[7] as usize,
-        part: words[8] as usize,
-    };
-    Read::Is(state)
+    let read = read_mode(words[0]);
+    match read {
+        ModeRead::NoMode => Read::NoState,
+        ModeRead::Known(mode) => {
+            let state = State {
+                mode,
+                max: words[1] as u16,
+                cap: words[2] as usize,
+                live: words[3] as usize,
+                off: words[4] as usize,
+                used: words[5] as usize,
+                open: words[6] == 1,
+                chunk: words[7] as usize,
+                part: words[8] as usize,
+            };
+            Read::Is(state)
+        }
+    }
 }
 
 // A state's nine words; the others stay.
