@@ -3,6 +3,7 @@ pub mod Closing
 pub mod Account
 pub mod Turns
 pub mod Slices
+pub mod Handing
 pub mod Totals
 pub mod Determined
 pub mod Bench

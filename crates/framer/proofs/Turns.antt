@@ -55,9 +55,12 @@ module _ (carry chunk : List ℕ) where
           ih .1 ∙ step-turn (drain k s) sane ∙ rw mv (ap (λ (x : State). stepFrom x carry chunk) (drain-drain k (far y) n s q)),
         )
 
-    -- where nothing is passed, and more is needed, the step changes nothing
+    -- where nothing is passed, what is said is the step's answer; and where more is needed, it changes nothing
+    pub says-step : (v : Verdict) → moveOf s carry chunk ≡ Say v → stepFrom s carry chunk ≡ say s carry chunk v
+    says-step v e = step-turn s ok ∙ rw e
+
     pub waits-step : moveOf s carry chunk ≡ Say (Wait 0) → stepFrom s carry chunk ≡ out NeedMore s carry
-    waits-step e = step-turn s ok ∙ rw e (ap (λ (x : State). out NeedMore x carry) (drain-zero s))
+    waits-step e = says-step (Wait 0) e ∙ ap (λ (x : State). out NeedMore x carry) (drain-zero s)
 
     module _ (k : ℕ) (v : Verdict) (st : Stops (s .mode) (s .max) (s .cap) (leftLen s) (window s carry chunk) k v) where
       pub stops-within : k ≤ width s

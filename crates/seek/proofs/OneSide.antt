@@ -1,8 +1,8 @@
 -- What one side of the window tells of its front, outcome by outcome.
 use mathlib.Core.Path.{_≡_, refl, sym, ap, _∙_}
-use mathlib.Core.Bool.{Bool, true, false, and-false}
+use mathlib.Core.Bool.{Bool, true, false, and-false, or-true}
 use mathlib.Core.List.{List, [], _∷_, _++_, append-nil}
-use mathlib.Core.Logic.{⊎-elim, inl, inr}
+use mathlib.Core.Logic.{_⊎_, ⊎-elim, inl, inr}
 use Prim.Native.Nat.{ℕ, _+_, _-_, _*_, _%_, _≤_, _<_}
 use native.Mathlib.Omega.{arith}
 use lib.ListN.{length, getD, take, drop, length-drop, length-append}
@@ -19,12 +19,13 @@ use Rattle.claim.specs.declared.Verdict.the-variants.{Wait, Hand}
 use Rattle.claim.specs.Sizes.{skip, around, size, back}
 use Rattle.claim.specs.Verdicts.{canHand, judgeSum, lacks}
 use Rattle.look.specs.declared.Why.the-variants.{NotPair, OverMax}
-use Rattle.look.specs.declared.Sight.the-variants.{Pass, Say}
+use Rattle.look.specs.declared.Sight.{Sight, the-variants.{Pass, Say}}
 use Rattle.seek.specs.declared.Hint.{Hint}
+use Rattle.seek.specs.declared.Whole.{Whole, the-variants.{Unsure as Untold, Ubx as WholeUbx, Rtcm as WholeRtcm}}
 use Rattle.look.specs.Rules.{claim, lookUbx, lookRtcm, atSync}
 use Rattle.look.specs.Moves.{judge, settled, stepMove}
 use Rattle.seek.specs.Passed.{moveAt}
-use Rattle.seek.specs.OneSide.{firstOf, Begins, Tells}
+use Rattle.seek.specs.OneSide.{firstOf, Begins, Beside, Tells, HoldsFrame, HoldsWhole, HandsFrame, HandsWhole}
 use Rattle.look.proofs.Rules.{judged, judge-bare, ubx-other, ubx-over, ubx-claims, rtcm-claims, look-sync}
 
 -- ---- the first slice that has bytes
@@ -37,6 +38,11 @@ pub first-some : (a b : List ℕ) → (length a ≡ 0 → ⊥) → a ≡ firstOf
 first-some [] b h = absurd (h refl)
 first-some (x ∷ a) b h = refl
 
+-- and the second behind it has all that is left
+pub first-long : (a b s : List ℕ) → s ≡ firstOf a b → length a + length b ≤ length s + length b
+first-long [] b s e = omega arith
+first-long (x ∷ a) b s e = let z = ap length e in omega arith
+
 begins-first : (a b : List ℕ) (k : ℕ) → k ≤ length (firstOf a b) → Begins (drop k (firstOf a b)) (drop k (a ++ b)) (length a - k) (length a + length b - k)
 begins-first [] b k h = record { rest = []; joined = sym (append-nil (drop k b)); width = length-drop k b ∙ omega arith; side = inr (omega arith) }
 begins-first (x ∷ a) b k h = record {
@@ -46,12 +52,17 @@ begins-first (x ∷ a) b k h = record {
   side = inl (sym (length-drop k (x ∷ a)));
 }
 
+beside-first : (a b : List ℕ) (k : ℕ) → k ≤ length (firstOf a b) → Beside (drop k (firstOf a b)) b (drop k (a ++ b)) (length a - k)
+beside-first [] b k h = inl refl
+beside-first (x ∷ a) b k h = inr (drop-append-le k (x ∷ a) b h, sym (length-drop k (x ∷ a)))
+
 -- what is told of the slice from k on is told of the window from k on
 pub told-there : (mode : Mode) (max cap : ℕ) (a b s : List ℕ) → s ≡ firstOf a b → (k : ℕ) → k ≤ length s → (r : Hint)
-    → ((u : ℕ) (W : List ℕ) → Begins (take (length s - k) (drop k s)) W u (length a + length b - k) → Tells r (stepMove mode max cap u W))
+    → ((u : ℕ) (W : List ℕ) → Begins (take (length s - k) (drop k s)) W u (length a + length b - k) → Beside (take (length s - k) (drop k s)) b W u → Tells r (stepMove mode max cap u W))
     → Tells r (moveAt mode max cap (length a) (a ++ b) k)
 told-there mode max cap a b s e k h r f =
-    f (length a - k) (drop k (a ++ b)) (rw (from s k, e) (begins-first a b k (rw e at h)))
+    let l : k ≤ length (firstOf a b) = rw e at h in
+    f (length a - k) (drop k (a ++ b)) (rw (from s k, e) (begins-first a b k l)) (rw (from s k, e) (beside-first a b k l))
 
 -- ---- a window that begins with a side
 
@@ -77,6 +88,10 @@ module _ (s W : List ℕ) (u w : ℕ) (h : Begins s W u w) where
       (λ e. let q : u - d ≤ 0 = omega arith in simp (le-leb _ _ p, le-ltb _ _ q))
       (h .side)
 
+  -- and what fits the carry passes it wherever it lies
+  hands-fitting : (cap d t : ℕ) → d + t ≤ w → t ≤ cap → canHand cap u (length W) d t ≡ true
+  hands-fitting cap d t l m = let p : d + t ≤ length W = rw (h .width) l in simp (le-leb _ _ p, le-leb _ _ m, or-true)
+
   lacks-some : (cap d t : ℕ) → w < d + t → canHand cap u (length W) d t ≡ false
   lacks-some cap d t l = let p : length W < d + t = rw (h .width) l in simp (lt-leb _ _ p)
 
@@ -84,6 +99,10 @@ module _ (s W : List ℕ) (u w : ℕ) (h : Begins s W u w) where
     settles : skip kind + size kind ≤ length s → settled cap u W (claim kind) ≡ Say (judge kind W)
     unfolding pick
     settles l = rw (hands cap (skip kind) (size kind) l)
+
+    settles-fitting : skip kind + size kind ≤ w → size kind ≤ cap → settled cap u W (claim kind) ≡ Say (judge kind W)
+    unfolding pick
+    settles-fitting l m = rw (hands-fitting cap (skip kind) (size kind) l m)
 
     settles-not : w < skip kind + size kind → settled cap u W (claim kind) ≡ Say (lacks (ltb cap w) (back kind) (size kind))
     unfolding pick
@@ -142,6 +161,21 @@ module _ (s W : List ℕ) (u w : ℕ) (h : Begins s W u w) where
           ∙ ap Say (judged (getD s 2 0) (getD s 3 0) n (getD s (6 + n) 0) (getD s (6 + n + 1) 0) (sumOf (take (6 + n - 2) (drop 2 s))) W
           (begins-at (6 + n) (omega arith)) (begins-at (6 + n + 1) (omega arith)) (ap sumOf (begins-part n (omega arith))))
 
+      -- the frame is on both sides, and fits the carry
+      pub side-both : (b : List ℕ) → Beside s b W u → n ≤ max → n + 8 ≤ w → length s < n + 8 → n + 2 ≤ cap → settled cap u W (lookUbx max W)
+          ≡ Say (judgeSum (getD (s ++ b) (6 + n) 0) (getD (s ++ b) (6 + n + 1) 0) (sumOf (take (6 + n - 2) (drop 2 (s ++ b)))) (getD s 2 0) (getD s 3 0) n)
+      side-both b beside l m short room =
+          let all : s ++ b ≡ W = ⊎-elim (λ e. let z = ap length e in absurd (omega (arith, h .width))) (λ e. sym (e .0)) beside in
+          rw all
+          (rw (claims l) (settles-fitting cap (Ubx (getD s 2 0) (getD s 3 0) n) (omega arith) (omega arith))
+          ∙ ap Say (judged (getD s 2 0) (getD s 3 0) n (getD W (6 + n) 0) (getD W (6 + n + 1) 0) (sumOf (take (6 + n - 2) (drop 2 W))) W refl refl refl))
+
+      pub side-hands : n ≤ max → n + 8 ≤ length s
+          → getD s (6 + n) 0 ≡ sumOf (take (6 + n - 2) (drop 2 s)) .a → getD s (6 + n + 1) 0 ≡ sumOf (take (6 + n - 2) (drop 2 s)) .b
+          → settled cap u W (lookUbx max W) ≡ Say (Hand (Ubx (getD s 2 0) (getD s 3 0) n))
+      unfolding pick
+      side-hands l m a b = side-judged l m ∙ ap Say (rw (eq-eqb _ _ a, eq-eqb _ _ b))
+
   -- ---- rule 3
 
   module _ (parity : Bool) (cap : ℕ) (long : 3 ≤ length s) (n : ℕ) (en : n ≡ (256 * getD s 1 0 + getD s 2 0) % 1024) where
@@ -158,3 +192,37 @@ module _ (s W : List ℕ) (u w : ℕ) (h : Begins s W u w) where
   module _ (cap : ℕ) (long : 3 ≤ length s) (n : ℕ) (en : n ≡ (256 * getD s 1 0 + getD s 2 0) % 1024) where
     pub side-hands-rtcm : n + 3 ≤ length s → settled cap u W (lookRtcm false W) ≡ Say (Hand (Rtcm n false))
     side-hands-rtcm l = rw (claims-rtcm false cap long n en) (settles cap (Rtcm n false) (omega arith)) ∙ ap Say (judge-bare n W)
+
+    pub side-fits-rtcm : n + 3 ≤ w → n + 3 ≤ cap → settled cap u W (lookRtcm false W) ≡ Say (Hand (Rtcm n false))
+    side-fits-rtcm l m = rw (claims-rtcm false cap long n en) (settles-fitting cap (Rtcm n false) (omega arith) (omega arith)) ∙ ap Say (judge-bare n W)
+
+-- ---- a frame that one side has all of
+
+-- what is told by a rule is told of the move, where that is the rule's
+module _ (f g : ℕ → ℕ → List ℕ → Sight) (s : List ℕ) (e : (cap u w : ℕ) (W : List ℕ) → Begins s W u w → g cap u W ≡ f cap u W) where
+  frame-by : (kind : Kind) → HoldsFrame f s kind → HoldsFrame g s kind
+  frame-by kind h = (h .0, λ cap u w W b. e cap u w W b ∙ h .1 cap u w W b)
+
+  pub whole-by : (r : Whole) → HoldsWhole f s r → HoldsWhole g s r
+  whole-by Untold h = tt
+  whole-by (WholeUbx class id n) h = frame-by (Ubx class id n) h
+  whole-by (WholeRtcm n) h = frame-by (Rtcm n false) h
+
+-- two lists read as one begin with the first that has bytes
+begins-both : (a b : List ℕ) → Begins (firstOf a b) (a ++ b) (length a) (length a + length b)
+begins-both [] b = record { rest = []; joined = sym (append-nil b); width = omega arith; side = inr refl }
+begins-both (x ∷ a) b = record { rest = b; joined = refl; width = length-append (x ∷ a) b; side = inl refl }
+
+on-one-side : (a b : List ℕ) (n : ℕ) → n ≤ length (firstOf a b) → (length a ≡ 0) ⊎ (n ≤ length a)
+on-one-side [] b n h = inl refl
+on-one-side (x ∷ a) b n h = inr h
+
+module _ (mode : Mode) (max : ℕ) (a b s : List ℕ) (e : s ≡ firstOf a b) where
+  hands-frame : (kind : Kind) → HoldsFrame (λ cap u W. stepMove mode max cap u W) s kind → HandsFrame mode max a b kind
+  hands-frame kind h =
+      (on-one-side a b (skip kind + size kind) (rw e at (h .0)), λ cap. h .1 cap (length a) (length a + length b) (a ++ b) (rw e (begins-both a b)))
+
+  pub hands-whole : (r : Whole) → HoldsWhole (λ cap u W. stepMove mode max cap u W) s r → HandsWhole mode max a b r
+  hands-whole Untold h = tt
+  hands-whole (WholeUbx class id n) h = hands-frame (Ubx class id n) h
+  hands-whole (WholeRtcm n) h = hands-frame (Rtcm n false) h

@@ -1,7 +1,7 @@
 // The loop that passes what is to be passed in silence, until something is to be said: at one side of the window alone as long
 // as that tells, then at both. Rust: parser.rs, the loops around the heads of the three iterators' `next`.
 ghost use mathlib.Core.Path.{_≡_};
-ghost use mathlib.Core.Bool.{true};
+ghost use mathlib.Core.Bool.{true, false};
 ghost use mathlib.Core.List.{List, _++_};
 ghost use Prim.Native.Nat.{ℕ, _+_, _≤_};
 ghost use lib.ListN.{length};
@@ -10,7 +10,7 @@ ghost use Rattle.look.specs.declared.Sight.the-variants.{Say};
 ghost use Rattle.look.specs.Rules.{far, lookUbx, lookRtcm};
 ghost use Rattle.look.specs.Moves.{settled, stepMove};
 ghost use Rattle.seek.specs.Passed.{moveAt, Passed, Stops};
-ghost use Rattle.seek.specs.OneSide.{firstOf, Begins, Tells};
+ghost use Rattle.seek.specs.OneSide.{firstOf, Begins, Beside, Tells, HoldsWhole, HandsWhole};
 use claim::Kind;
 use claim::Verdict;
 use look::Sight;
@@ -22,6 +22,14 @@ enum Hint {
     Unsure,
     Past(Why),
     Sure(Verdict),
+}
+
+// What one side of the window tells of a frame at its front, all of which it has: nothing; a UBX frame, or an RTCM frame that is read
+// without parity, which is handed out.
+pub enum Whole {
+    Unsure,
+    Ubx { class: u8, id: u8, n: usize },
+    Rtcm { n: usize },
 }
 
 // How many bytes are passed in silence, and what is said there.
@@ -58,10 +66,10 @@ fn first_of<'a>(a: &'a [u8], b: &'a [u8]) -> &'a [u8]
     if a.len() == 0 { b } else { a }
 }
 
-// Rule 2, where one side has the head. The window has w bytes.
-fn glance_ubx(max: u16, cap: usize, s: &[u8], w: usize) -> Hint
-    requires { ⌜ 6 ≤ length (now s) ⌝ }
-    ensures { λ r. ⌜ ((u : ℕ) (W : List ℕ) → Begins (now (s .entry)) W u w → Tells r (settled cap u W (lookUbx max W))) ⌝ }
+// Rule 2, where one side has the head. The window has w bytes; b stands behind that side, if anything does.
+fn glance_ubx(max: u16, cap: usize, s: &[u8], b: &[u8], w: usize) -> Hint
+    requires { ⌜ (6 ≤ length (now s)) × (w ≤ length (now s) + length (now b)) ⌝ }
+    ensures { λ r. ⌜ ((u : ℕ) (W : List ℕ) → Begins (now (s .entry)) W u w → Beside (now (s .entry)) (now (b .entry)) W u → Tells r (settled cap u W (lookUbx max W))) ⌝ }
 {
     if s[1] != window::UBX_SYNC_CHAR_2 {
         return Hint::Past(Why::NotPair);
@@ -71,16 +79,25 @@ fn glance_ubx(max: u16, cap: usize, s: &[u8], w: usize) -> Hint
         return Hint::Past(Why::OverMax);
     }
     let n = m as usize;
+    let body = n + claim::UBX_CHECKSUM_LEN;
     if w < n + 8 {
-        let v = claim::lacks(cap, w, claim::UBX_SYNC_SIZE, n + claim::UBX_CHECKSUM_LEN);
+        let v = claim::lacks(cap, w, claim::UBX_SYNC_SIZE, body);
         return Hint::Sure(v);
     }
-    if s.len() < n + 8 {
+    if n + 8 <= s.len() {
+        let end = claim::UBX_HEADER_LEN + n;
+        let got = sum::update(sum::new(), &s[claim::UBX_SYNC_SIZE..end]);
+        let v = claim::judged(s[end], s[end + 1], got, s[2], s[3], n);
+        return Hint::Sure(v);
+    }
+    if cap < body {
         return Hint::Unsure;
     }
     let end = claim::UBX_HEADER_LEN + n;
-    let got = sum::update(sum::new(), &s[claim::UBX_SYNC_SIZE..end]);
-    let v = claim::judged(s[end], s[end + 1], got, s[2], s[3], n);
+    let got = window::sum_of(s, b, claim::UBX_SYNC_SIZE, end);
+    let ck_a = window::byte_at(s, b, end);
+    let ck_b = window::byte_at(s, b, end + 1);
+    let v = claim::judged(ck_a, ck_b, got, s[2], s[3], n);
     Hint::Sure(v)
 }
 
@@ -99,7 +116,11 @@ fn glance_rtcm(parity: bool, cap: usize, s: &[u8], w: usize) -> Hint
         return Hint::Unsure;
     }
     if s.len() < size {
-        return Hint::Unsure;
+        if cap < size {
+            return Hint::Unsure;
+        }
+        let kind = Kind::Rtcm { n, parity: false };
+        return Hint::Sure(Verdict::Hand(kind));
     }
     let kind = Kind::Rtcm { n, parity: false };
     Hint::Sure(Verdict::Hand(kind))
@@ -150,17 +171,90 @@ pub fn is_short(mode: Mode, max: u16, cap: usize, s: &[u8], w: usize) -> bool
     false
 }
 
-// What one side alone tells of the front of a window of w bytes.
-fn glance(mode: Mode, max: u16, cap: usize, s: &[u8], w: usize) -> Hint
+// The frame at the front of one side that has all of it: rule 2, and rule 3 without parity.
+fn whole_ubx(max: u16, s: &[u8]) -> Whole
     requires { ⌜ 6 ≤ length (now s) ⌝ }
-    ensures { λ r. ⌜ ((u : ℕ) (W : List ℕ) → Begins (now (s .entry)) W u w → Tells r (stepMove mode max cap u W)) ⌝ }
+    ensures { λ r. ⌜ HoldsWhole (λ cap u W. settled cap u W (lookUbx max W)) (now (s .entry)) r ⌝ }
+{
+    if s[1] != window::UBX_SYNC_CHAR_2 {
+        return Whole::Unsure;
+    }
+    let length = sum::word(s[4], s[5]);
+    if max < length {
+        return Whole::Unsure;
+    }
+    let n = length as usize;
+    if s.len() < n + 8 {
+        return Whole::Unsure;
+    }
+    let check = claim::UBX_HEADER_LEN + n;
+    let got = sum::update(sum::new(), &s[claim::UBX_SYNC_SIZE..check]);
+    if s[check] != got.a {
+        return Whole::Unsure;
+    }
+    if s[check + 1] != got.b {
+        return Whole::Unsure;
+    }
+    Whole::Ubx {
+        class: s[2],
+        id: s[3],
+        n,
+    }
+}
+
+fn whole_rtcm(s: &[u8]) -> Whole
+    requires { ⌜ 3 ≤ length (now s) ⌝ }
+    ensures { λ r. ⌜ HoldsWhole (λ cap u W. settled cap u W (lookRtcm false W)) (now (s .entry)) r ⌝ }
+{
+    let message = claim::rtcm_length(s[1], s[2]);
+    if s.len() < message + claim::around(false) {
+        return Whole::Unsure;
+    }
+    Whole::Rtcm { n: message }
+}
+
+// The frame at the front of one side that has all of it, by the front byte.
+fn whole_in(mode: Mode, max: u16, s: &[u8]) -> Whole
+    ensures { λ r. ⌜ HoldsWhole (λ cap u W. stepMove mode max cap u W) (now (s .entry)) r ⌝ }
+{
+    if s.len() < claim::UBX_HEADER_LEN {
+        return Whole::Unsure;
+    }
+    let x = s[0];
+    if !window::is_sync(mode, x) {
+        return Whole::Unsure;
+    }
+    if x == window::UBX_SYNC_CHAR_1 {
+        return whole_ubx(max, s);
+    }
+    if x != window::RTCM_SYNC_CHAR {
+        return Whole::Unsure;
+    }
+    if window::has_parity(mode) {
+        return Whole::Unsure;
+    }
+    whole_rtcm(s)
+}
+
+// The frame at the window's front, where one side has all of it and its sum is right. Tried before anything is searched for, since
+// frames mostly stand one behind the other.
+pub fn whole_frame<'a>(mode: Mode, max: u16, a: &'a [u8], b: &'a [u8]) -> Whole
+    ensures { λ r. ⌜ HandsWhole mode max (now (a .entry)) (now (b .entry)) r ⌝ }
+{
+    whole_in(mode, max, first_of(a, b))
+}
+
+// What one side tells of the front of a window of w bytes, by itself or, where it has a frame's head, with b behind it.
+fn glance(mode: Mode, max: u16, cap: usize, s: &[u8], b: &[u8], w: usize) -> Hint
+    requires { ⌜ (6 ≤ length (now s)) × (w ≤ length (now s) + length (now b)) ⌝ }
+    ensures { λ r. ⌜ ((u : ℕ) (W : List ℕ) → Begins (now (s .entry)) W u w → Beside (now (s .entry)) (now (b .entry)) W u → Tells r (stepMove mode max cap u W)) ⌝ }
 {
     let x = s[0];
     if !window::is_sync(mode, x) {
         return Hint::Past(Why::NoSync);
     }
     if x == window::UBX_SYNC_CHAR_1 {
-        return glance_ubx(max, cap, s, w);
+        return glance_ubx(max, cap, s, b, w);
     }
     if x == window::RTCM_SYNC_CHAR {
         return glance_rtcm(window::has_parity(mode), cap, s, w);
@@ -168,7 +262,7 @@ fn glance(mode: Mode, max: u16, cap: usize, s: &[u8], w: usize) -> Hint
     Hint::Unsure
 }
 
-// Looks, and passes what is to be passed, until something is to be said: at one side alone as long as that tells, then at both.
+// Looks, and passes what is to be passed, until something is to be said: at one side's heads as long as these tell, then at both sides.
 pub fn seek<'a>(mode: Mode, max: u16, cap: usize, a: &'a [u8], b: &'a [u8]) -> Stop
     ensures { λ r. ⌜ Stops mode max cap (length (now (a .entry))) (now (a .entry) ++ now (b .entry)) (r .skip) (r .verdict) ⌝ }
 {
@@ -179,7 +273,7 @@ pub fn seek<'a>(mode: Mode, max: u16, cap: usize, a: &'a [u8], b: &'a [u8]) -> S
         if s.len() - skip < claim::UBX_HEADER_LEN {
             break;
         }
-        let told = glance(mode, max, cap, &s[skip..], w - skip);
+        let told = glance(mode, max, cap, &s[skip..], b, w - skip);
         match told {
             Hint::Past(why) => {
                 skip = window::find_sync(mode, a, b, skip + far(why));

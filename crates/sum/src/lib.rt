@@ -15,14 +15,14 @@ pub fn new() -> Sums
     Sums { a: 0, b: 0 }
 }
 
-// The sums run on over the bytes, 16 and 16 and then the rest: a length that is written out spares the loop its tests.
+// The sums run on over the bytes, 32 and 32 and then the rest: a length that is written out spares the loop its tests.
 pub fn update(from: Sums, bytes: &[u8]) -> Sums
     ensures { λ r. ⌜ r ≡ sumOn from (now (bytes .entry)) ⌝ }
 {
     let mut sums = from;
     let mut i = 0;
-    while bytes.len() - i >= 16 {
-        let e = i + 16;
+    while bytes.len() - i >= 32 {
+        let e = i + 32;
         sums = run_over(sums, &bytes[i..e]);
         i = e;
     }

@@ -130,15 +130,15 @@ fn any(needle: Needle, s: &[u8]) -> bool
     }
 }
 
-// From `from` on past whole blocks of 128 bytes, or of 16, that have none of what is looked for. The sizes are written out so
+// From `from` on past whole blocks of 64 bytes, or of 16, that have none of what is looked for. The sizes are written out so
 // that a block's bytes are compared many at a time.
-fn past_128(needle: Needle, s: &[u8], from: usize) -> usize
+fn past_64(needle: Needle, s: &[u8], from: usize) -> usize
     requires { ⌜ from ≤ length (now s) ⌝ }
     ensures { λ r. ⌜ PastNone (told needle) (now (s .entry)) from r ⌝ }
 {
     let mut i = from;
-    while s.len() - i >= 128 {
-        let e = i + 128;
+    while s.len() - i >= 64 {
+        let e = i + 64;
         if any(needle, &s[i..e]) {
             break;
         }
@@ -177,19 +177,22 @@ fn past_bytes(needle: Needle, s: &[u8], from: usize, to: usize) -> usize
     i
 }
 
-// The place of the first byte of s that is looked for, or its length: the first four bytes by themselves, then past blocks that
-// have none, then byte by byte.
+// The place of the first byte of s that is looked for, or its length. Few bytes are looked at one by one; of more, the first four by
+// themselves, since what is looked for is often near; then all, past blocks that have none, and the rest one by one.
 fn find_in(needle: Needle, s: &[u8]) -> usize
     ensures { λ r. ⌜ r ≡ first (told needle) (now (s .entry)) ⌝ }
 {
-    let near = least(s.len(), 4);
-    let i = past_bytes(needle, s, 0, near);
-    if i < near {
-        return i;
+    let len = s.len();
+    if len < 16 {
+        return past_bytes(needle, s, 0, len);
     }
-    let far = past_128(needle, s, i);
+    let near = past_bytes(needle, s, 0, 4);
+    if near < 4 {
+        return near;
+    }
+    let far = past_64(needle, s, 0);
     let late = past_16(needle, s, far);
-    past_bytes(needle, s, late, s.len())
+    past_bytes(needle, s, late, len)
 }
 
 // The place of the window's first byte from k on that is looked for, or the window's length where there is none.

@@ -17,7 +17,7 @@ is-sync-requires : tie.Need-is-sync-requires
 is-sync-requires c κs = search needs
 
 returns : tie.Need-returns
-returns c = λ u W h. let x = c .before .before .before .before .args in
+returns c = λ u W h beside. let x = c .before .before .before .before .before .args in
     let n : 0 < length W = omega (arith, begins-long (x .s .now) W u (x .w) h) in
     look-noise (x .mode) (x .max) (x .cap) u W _ (begins-at (x .s .now) W u (x .w) h 0 (omega arith)) n (sym (c .before .is-sync .ensures) ∙ not-true _ (c .if1 .taken))
 
@@ -25,9 +25,9 @@ glance-ubx-requires : tie.Need-glance-ubx-requires
 glance-ubx-requires c κs = search needs
 
 returns-2 : tie.Need-returns-2
-returns-2 c = λ u W h. let x = c .before .before .before .before .before .before .args in
+returns-2 c = λ u W h beside. let x = c .before .before .before .before .before .before .before .args in
     rw (ruled-ubx (x .s .now) W u (x .w) h (x .mode) (x .max) (x .cap) (omega arith) (sym (c .before .before .before .is-sync .ensures) ∙ not-false _ (c .before .before .if1 .left)) (c .before .if2 .taken))
-    (c .glance-ubx .ensures u W h)
+    (c .glance-ubx .ensures u W h beside)
 
 has-parity-requires : tie.Need-has-parity-requires
 has-parity-requires c κs = search needs
@@ -36,7 +36,7 @@ glance-rtcm-requires : tie.Need-glance-rtcm-requires
 glance-rtcm-requires c κs = search needs
 
 returns-3 : tie.Need-returns-3
-returns-3 c = λ u W h. let x = c .before .before .before .before .before .before .before .before .args in
+returns-3 c = λ u W h beside. let x = c .before .before .before .before .before .before .before .before .before .args in
     rw (ruled-rtcm (x .s .now) W u (x .w) h (x .mode) (x .max) (x .cap) (omega arith) (sym (c .before .before .before .before .before .is-sync .ensures) ∙ not-false _ (c .before .before .before .before .if1 .left)) (c .before .before .before .if2 .left) (c .before .before .if3 .taken), ← c .before .has-parity .ensures)
     (c .glance-rtcm .ensures u W h)
 

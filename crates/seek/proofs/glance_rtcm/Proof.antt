@@ -1,7 +1,7 @@
 -- `seek::glance_rtcm` meets its contract: a law for each way out.
 use mathlib.Core.Path.{sym, ap, _∙_}
 use Rattle.look.specs.declared.Sight.the-variants.{Say}
-use Rattle.seek.proofs.OneSide.{side-lacks-rtcm, side-hands-rtcm}
+use Rattle.seek.proofs.OneSide.{side-lacks-rtcm, side-hands-rtcm, side-fits-rtcm}
 use borrow.Author.Needs.{needs}
 use Rattle.seek.proofs.glance_rtcm.Statement.{statement}
 use Rattle.seek.proofs.glance_rtcm.Tie as tie
@@ -35,7 +35,11 @@ returns-3 : tie.Need-returns-3
 returns-3 c = search needs
 
 returns-4 : tie.Need-returns-4
-returns-4 c = λ u W h. let x = c .before .before .before .before .before .before .before .before .args in
+returns-4 c = λ u W h. let x = c .before .before .before .before .before .before .before .before .before .args in let size = c .before .before .before .before .around .ensures .0 in
+    rw (c .before .before .if2 .left) (side-fits-rtcm (x .s .now) W u (x .w) h (x .cap) (c .before .before .before .before .before .before .before .before .before .pre) (c .before .before .before .before .before .rtcm-length .result) (c .before .before .before .before .before .rtcm-length .ensures) (rw (size, c .before .before .if2 .left) at (c .before .before .before .if1 .left)) (rw (size, c .before .before .if2 .left) at (c .if4 .left)))
+
+returns-5 : tie.Need-returns-5
+returns-5 c = λ u W h. let x = c .before .before .before .before .before .before .before .before .args in
     rw (c .before .if2 .left) (side-hands-rtcm (x .s .now) W u (x .w) h (x .cap) (c .before .before .before .before .before .before .before .before .pre) (c .before .before .before .before .rtcm-length .result) (c .before .before .before .before .rtcm-length .ensures) (rw (c .before .before .before .around .ensures .0, c .before .if2 .left) at (c .if3 .left)))
 
 pub glance-rtcm-spec : {M : Type 1} → statement M
@@ -51,4 +55,5 @@ glance-rtcm-spec =
     returns
     returns-2
     returns-3
-    returns-4)
+    returns-4
+    returns-5)

@@ -5,7 +5,7 @@ use native.Mathlib.Omega.{arith}
 use lib.ListN.{length, length-append}
 use Rattle.seek.specs.Passed.{Passed, start}
 use Rattle.seek.proofs.Passed.{pass-noise, pass-turn}
-use Rattle.seek.proofs.OneSide.{told-there}
+use Rattle.seek.proofs.OneSide.{first-long, told-there}
 use borrow.Author.Needs.{needs}
 use Rattle.seek.proofs.seek.Statement.{statement}
 use Rattle.seek.proofs.seek.Tie as tie
@@ -41,7 +41,8 @@ sub-glance-2 : tie.Need-sub-glance-2 Inv-loop μ-loop
 sub-glance-2 c = search needs
 
 glance-requires : tie.Need-glance-requires Inv-loop μ-loop
-glance-requires c κs = search needs
+glance-requires c κs = let x = c .before .before .before .before .before .before .before .args in let at = c .before .before .before .before in
+    search (needs, first-long (x .a .now) (x .b .now) (at .first-of .result .now) (at .first-of .ensures))
 
 enum-known-told : tie.Need-enum-known-told Inv-loop μ-loop
 enum-known-told c = search needs

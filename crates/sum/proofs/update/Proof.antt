@@ -41,8 +41,8 @@ loop-less c = search needs
 
 loop-again : tie.Need-loop-again Inv-loop μ-loop
 loop-again c = let at = c .before .before .before in let l = at .before .before .args .bytes .now in let i = at .loop .i in
-    let n : i + 16 - i ≡ 16 = omega arith in
-    (omega arith, rw (c .run-over .ensures, n) (sum-block (at .loop .sums) l i 16 ∙ at .loop .inv .1))
+    let n : i + 32 - i ≡ 32 = omega arith in
+    (omega arith, rw (c .run-over .ensures, n) (sum-block (at .loop .sums) l i 32 ∙ at .loop .inv .1))
 
 sub-run-over-2 : tie.Need-sub-run-over-2 Inv-loop μ-loop
 sub-run-over-2 c = search needs

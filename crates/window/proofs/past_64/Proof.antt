@@ -1,4 +1,4 @@
--- `window::past_128` meets its contract: each block that is passed has none of what is looked for.
+-- `window::past_64` meets its contract: each block that is passed has none of what is looked for.
 use mathlib.Core.Path.{_≡_, sym, _∙_}
 use Prim.Native.Nat.{_+_, _-_, _≤_}
 use native.Mathlib.Omega.{arith}
@@ -6,8 +6,8 @@ use lib.ListN.{length}
 use Rattle.window.specs.Search.{told, PastNone}
 use Rattle.window.proofs.Laws.{first-past}
 use borrow.Author.Needs.{needs}
-use Rattle.window.proofs.past_128.Statement.{statement}
-use Rattle.window.proofs.past_128.Tie as tie
+use Rattle.window.proofs.past_64.Statement.{statement}
+use Rattle.window.proofs.past_64.Tie as tie
 
 abbrev Inv-loop : tie.InvT-loop
 Inv-loop needle s from i₀ i = PastNone (told needle) s from i
@@ -41,12 +41,12 @@ loop-less c = omega (arith, c .before .before .before .before .loop .inv .high)
 
 loop-again : tie.Need-loop-again Inv-loop μ-loop
 loop-again c = let x = c .before .before .before .before .before .before .args in let i = c .before .before .before .before .loop .i in
-    let n : i + 128 - i ≡ 128 = omega arith in
-    let h : i + 128 ≤ length (x .s .now) = omega (arith, c .before .before .before .before .loop .inv .high) in
+    let n : i + 64 - i ≡ 64 = omega arith in
+    let h : i + 64 ≤ length (x .s .now) = omega (arith, c .before .before .before .before .loop .inv .high) in
     record {
       low = omega (arith, c .before .before .before .before .loop .inv .low);
       high = h;
-      same = omega (arith, c .before .before .before .before .loop .inv .same, first-past (told (x .needle)) (x .s .now) i (128) h (rw n at (sym (c .before .any .ensures) ∙ c .if1 .left)));
+      same = omega (arith, c .before .before .before .before .loop .inv .same, first-past (told (x .needle)) (x .s .now) i (64) h (rw n at (sym (c .before .any .ensures) ∙ c .if1 .left)));
     }
 
 returns : tie.Need-returns Inv-loop μ-loop
@@ -55,8 +55,8 @@ returns c = c .before .loop .inv
 returns-2 : tie.Need-returns-2 Inv-loop μ-loop
 returns-2 c = c .before .before .before .before .loop .inv
 
-pub past-128-spec : {M : Type 1} → statement M
-past-128-spec =
+pub past-64-spec : {M : Type 1} → statement M
+past-64-spec =
     tie.close
     (tie.spec
     Inv-loop
