@@ -1,27 +1,30 @@
--- What is said of an RTCM frame comes of a D3 whose head names its length, in the mode's setting; with parity the last three bytes decide.
--- In modes one and two no sentence is said.
+-- What is said of an RTCM frame, in the scan and in a step, comes of a D3 whose head names its length, in a mode that reads RTCM and in its
+-- setting; with parity the last three bytes decide. In modes one and two no sentence is said.
 use mathlib.Core.Path.{_≡_, refl}
 use mathlib.Core.Bool.{Bool, true, false}
 use mathlib.Core.List.{List, [], _∷_}
 use Prim.Native.Nat.{ℕ, _+_, _*_, _%_, _≤_}
 use native.Mathlib.Omega.{arith}
 use lib.ListN.{length, getD, take}
-use lib.Dec.{eqb}
+use lib.Dec.{ltb, eqb}
 use borrow.Author.Tests.{leb-true, eqb-true, eqb-false}
 use Rattle.parity.specs.Parity.{parityOf, wordOf}
 use Rattle.window.specs.declared.Mode.{Mode}
 use Rattle.window.specs.declared.Found.{Found, the-variants.{At, Nothing}}
-use Rattle.window.specs.Sync.{hasParity}
+use Rattle.window.specs.Sync.{hasParity, isSync}
 use Rattle.window.specs.EndMark.{endMark}
 use Rattle.window.proofs.Pick.{by-pick}
 use Rattle.claim.specs.declared.Kind.{Kind, the-variants.{Ubx, Rtcm, Sentence}}
 use Rattle.claim.specs.declared.Tale.{Tale, the-variants.{WrongSum, WrongParity, NoRoom}}
 use Rattle.claim.specs.declared.Verdict.{Verdict, the-variants.{Wait, Tell, Hand}}
+use Rattle.claim.specs.Sizes.{skip, size, back}
+use Rattle.claim.specs.Verdicts.{canHand, lacks}
 use Rattle.look.specs.declared.Sight.{Sight, the-variants.{Pass, Say}}
 use Rattle.look.specs.Rules.{Look, need, pass, claim, lookUbx, lookRtcm, endAt, lookNmea, look}
-use Rattle.look.specs.Moves.{judge}
+use Rattle.look.specs.Moves.{judge, settle, stepMove}
 use Rattle.look.specs.Within.{whole}
-use Rattle.stream.specs.Scan.{rtcmFrame, sentence, wrongParity, Event, body, scanSight, scanMove, HasScan}
+use Rattle.look.proofs.Rules.{hand-whole}
+use Rattle.stream.specs.Scan.{rtcmFrame, sentence, wrongParity, Event, body, isWhole, scanMove, HasScan}
 use Rattle.stream.proofs.Walks.{SaidBy, byTale, byFrame}
 use Rattle.stream.proofs.Modes.{no-other}
 
@@ -30,6 +33,7 @@ pub record Headed (mode : Mode) (W : List ℕ) (n : ℕ) (parity : Bool) : Type 
   pub front : getD W 0 0 ≡ 0xD3
   pub counts : n ≡ (256 * getD W 1 0 + getD W 2 0) % 1024
   pub setting : parity ≡ hasParity mode
+  pub reads : isSync mode 0xD3 ≡ true
 
 -- the last three bytes, and the parity of all before them
 abbrev pub received : List ℕ → ℕ → ℕ
@@ -73,9 +77,9 @@ module _ (mode : Mode) where
       let P : Look → Type 0 = LookClaims W in
       by-pick P (λ _. tt) (λ _. by-pick P (λ _. tt) (λ _. by-pick P (λ _. tt) (λ _. by-pick P (λ _. tt) (λ _. tt))))
 
-  rtcm-claims : (W : List ℕ) → getD W 0 0 ≡ 0xD3 → LookClaims W (lookRtcm (hasParity mode) W)
+  rtcm-claims : (W : List ℕ) → getD W 0 0 ≡ 0xD3 → isSync mode (getD W 0 0) ≡ true → LookClaims W (lookRtcm (hasParity mode) W)
   unfolding lookRtcm
-  rtcm-claims W front = by-pick (LookClaims W) (λ _. tt) (λ _. record { front = front; counts = refl; setting = refl })
+  rtcm-claims W front sync = by-pick (LookClaims W) (λ _. tt) (λ _. record { front = front; counts = refl; setting = refl; reads = rw front at sync })
 
   nmea-claims : (W : List ℕ) → (HasScan mode → ⊥) → (f : Found) → LookClaims W (endAt mode W f)
   nmea-claims W h (At i) = h
@@ -89,7 +93,7 @@ module _ (mode : Mode) where
       let P : Look → Type 0 = LookClaims W in
       by-pick P
       (λ t. by-pick P (λ _. ubx-claims max W)
-      (λ t5. by-pick P (λ t3. rtcm-claims W (eqb-true b 0xD3 t3))
+      (λ t5. by-pick P (λ t3. rtcm-claims W (eqb-true b 0xD3 t3) t)
       (λ t3. by-pick P (λ _. tt) (λ _. nmea-claims W (λ has. no-other mode b has t t5 t3) (endMark 0 W)))))
       (λ _. tt)
 
@@ -101,14 +105,26 @@ module _ (mode : Mode) where
   judge-tells (Rtcm n false) W h w = (h, tt)
   judge-tells (Sentence i) W h w = h
 
-  sight-tells : (W : List ℕ) (l : Look) → LookClaims W l → SightTells W (scanSight W l)
-  sight-tells W (need k) h = tt
-  sight-tells W (pass y) h = tt
-  sight-tells W (claim kind) h = by-pick (Tells W) (λ t. judge-tells kind W h (leb-true (whole kind) (length W) t)) (λ _. tt)
+  lacks-tells : (W : List ℕ) (drain size : ℕ) (over : Bool) → Tells W (lacks over drain size)
+  lacks-tells W drain size true = tt
+  lacks-tells W drain size false = tt
+
+  -- for any hand-out test that only a whole frame passes
+  module _ (fits : Kind → Bool) (over : Bool) (W : List ℕ) (sound : (kind : Kind) → fits kind ≡ true → whole kind ≤ length W) where
+    sight-tells : (l : Look) → LookClaims W l → SightTells W (settle fits over W l)
+    sight-tells (need k) h = tt
+    sight-tells (pass y) h = tt
+    sight-tells (claim kind) h = by-pick (Tells W) (λ t. judge-tells kind W h (sound kind t)) (λ _. lacks-tells W (back kind) (size kind) over)
 
   pub scan-tells : (max : ℕ) (W : List ℕ) → SightTells W (scanMove mode max W)
   unfolding scanMove
-  scan-tells max W = sight-tells W (look mode max W) (look-claims max W)
+  scan-tells max W = sight-tells (isWhole W) false W (λ kind t. leb-true (whole kind) (length W) t) (look mode max W) (look-claims max W)
+
+  pub step-tells : (max cap u : ℕ) (W : List ℕ) → SightTells W (stepMove mode max cap u W)
+  unfolding stepMove
+  step-tells max cap u W =
+      sight-tells (λ kind. canHand cap u (length W) (skip kind) (size kind)) (ltb cap (length W)) W
+      (λ kind t. hand-whole cap u (length W) (skip kind) (size kind) t) (look mode max W) (look-claims max W)
 
 -- an answer that is an RTCM frame, or a sentence, was handed out as such, and one that is a wrong parity told as such
 pub rtcm-of : (W : List ℕ) (m : Sight) (e : Event) → SaidBy W e m → (b : List ℕ) → e .said ≡ rtcmFrame b

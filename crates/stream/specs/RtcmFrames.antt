@@ -1,13 +1,18 @@
 -- 02, Ticket 4: the frames of a scan that reads RTCM frames with parity. None that is good is lost, none but a good one is handed
--- out, and stray bytes take no good frame.
+-- out, and stray bytes take no good frame. A wrong parity stands where it is told, in the scan and in a step.
 use mathlib.Core.Path.{_≡_}
 use mathlib.Core.Logic.{_⊎_}
 use mathlib.Core.Bool.{true}
-use Prim.Native.Nat.{ℕ, _+_, _≤_, _<_}
+use Prim.Native.Nat.{ℕ, _+_, _-_, _≤_, _<_}
 use mathlib.Core.List.{List, _∷_, _++_, List·Memᴰ as Among}
 use lib.ListN.{length, getD, take, drop}
 use Rattle.parity.specs.Parity.{parityOf, wordOf}
 use Rattle.window.specs.declared.Mode.the-variants.{Two}
+use Rattle.window.specs.Sync.{hasParity, isSync}
+use Rattle.state.specs.declared.State.{State}
+use Rattle.state.specs.Words.{window}
+use Rattle.framer.specs.declared.Answer.the-variants.{WrongParity}
+use Rattle.framer.specs.Step.{step}
 use Rattle.stream.specs.Scan.{rtcmFrame, wrongParity, Event, ended, scan}
 use Rattle.stream.specs.Interface.{frame, GoodFrame, Bytes}
 use Rattle.stream.specs.Frames.{span, handOut, Kept}
@@ -34,6 +39,16 @@ abbrev pub OnlyWrongParities : Type 0
 OnlyWrongParities =
     (max : ℕ) (stream : List ℕ) → Bytes stream → (e : Event) → Among e (scan (Two true) max stream .answers) → (expect got : ℕ) → e .said ≡ wrongParity expect got
     → (reserved : ℕ) × (message : List ℕ) × WrongRtcm (drop (e .at) stream) reserved message expect got
+
+-- and so in a step, in every mode and from every state: a wrong parity is told only where the mode reads RTCM and has parity, and it
+-- stands in the window, at the answer's position
+abbrev pub WrongParitiesStand : Type 0
+WrongParitiesStand =
+    (s : State) (carry chunk : List ℕ) → Bytes (window s carry chunk) → (p expect got : ℕ)
+    → step s carry chunk .result .answer ≡ WrongParity p expect got
+    → (s .used ≤ p)
+    × (isSync (s .mode) 0xD3 ≡ true) × (hasParity (s .mode) ≡ true)
+    × (reserved : ℕ) × (message : List ℕ) × WrongRtcm (drop (p - s .used) (window s carry chunk)) reserved message expect got
 
 -- an answer hands out a good frame, of either kind, that stands at its place
 abbrev pub GoodOut : ℕ → List ℕ → Event → Type 0
