@@ -10,7 +10,7 @@ use Rattle.look.specs.Rules.{look, lookUbx, lookRtcm, lookNmea}
 use Rattle.look.specs.Moves.{judge, stepMove}
 use Rattle.state.specs.Refusals.{isBad, mayOpen, mayUse}
 use Rattle.taking.specs.Take.{taking}
-use Rattle.framer.specs.Operations.{start, opening, closing}
+use Rattle.opening.specs.Operations.{start, opening, closing}
 use Rattle.framer.specs.Step.{step}
 use Rattle.framer.specs.Bench.{every, benchSet, portersErrors, parityRows}
 

@@ -1,5 +1,4 @@
 pub mod Ready
-pub mod Closing
 pub mod Account
 pub mod Turns
 pub mod Slices

@@ -15,11 +15,11 @@ use Rattle.state.specs.Refusals.{mayOpen, mayUse}
 use Rattle.state.specs.Ready.{Sane}
 use Rattle.state.proofs.Window.{window-length}
 use Rattle.state.proofs.Granted.{use-granted, open-granted}
-use Rattle.framer.specs.Operations.{noted, drainTo, openOn, opening, closeOn, closing}
+use Rattle.opening.specs.Operations.{noted, drainTo, openOn, opening, closeOn, closing}
 use Rattle.framer.specs.Step.{StepOut, stepFrom, stepOn, step}
 use Rattle.framer.specs.Reached.{isDenied, isRefused, Reached, byOpening, byStep}
 use Rattle.framer.proofs.Account.{Keeps, step-keeps}
-use Rattle.framer.proofs.Ready.{noted-ready}
+use Rattle.opening.proofs.Ready.{noted-ready}
 
 -- ---- a call that is not refused was granted
 

@@ -7,7 +7,7 @@ use lib.Dec.{eqb}
 use Rattle.window.specs.declared.Mode.{Mode, the-variants.{One, Two, Three}}
 use Rattle.state.specs.declared.State.{State}
 use Rattle.state.specs.Refusals.{leaveNo}
-use Rattle.framer.specs.Operations.{start, opening, closing}
+use Rattle.opening.specs.Operations.{start, opening, closing}
 use Rattle.framer.specs.Step.{step}
 use Rattle.framer.specs.Answers.{number, values}
 

@@ -1,4 +1,3 @@
-pub mod Operations
 pub mod Step
 pub mod Answers
 pub mod Promises

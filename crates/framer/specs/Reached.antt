@@ -7,7 +7,7 @@ use lib.Dec.{eqb}
 use Rattle.state.specs.declared.State.{State}
 use Rattle.state.specs.declared.Leave.{Leave, the-variants.{Granted, Denied}}
 use Rattle.framer.specs.declared.Answer.{Answer}
-use Rattle.framer.specs.Operations.{opening}
+use Rattle.opening.specs.Operations.{opening}
 use Rattle.framer.specs.Step.{step}
 use Rattle.framer.specs.Answers.{number}
 

@@ -6,8 +6,8 @@ use mathlib.Core.List.{List, [], _++_}
 use lib.ListN.{length}
 use Rattle.state.specs.declared.State.{State}
 use Rattle.framer.specs.declared.Answer.{Answer}
-use Rattle.framer.specs.declared.Closed.{Closed}
-use Rattle.framer.specs.Operations.{opening, closing}
+use Rattle.opening.specs.declared.Closed.{Closed}
+use Rattle.opening.specs.Operations.{opening, closing}
 use Rattle.framer.specs.Step.{step}
 use Rattle.framer.specs.Reached.{isNeedMore, isRefused}
 use Rattle.text.specs.Text.{Puts}

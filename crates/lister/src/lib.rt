@@ -3,9 +3,9 @@ ghost use mathlib.Core.Path.{_≡_};
 ghost use Prim.Native.Nat.{_+_, _≤_, _<_};
 ghost use lib.ListN.{length};
 ghost use Rattle.lister.specs.Listing.{flushed, counted, Tells, Fills, Answers, Lists};
-use framer::Closed;
 use libc::STDOUT_FILENO;
 use lines::LONGEST;
+use opening::Closed;
 use state::State;
 use window::Mode;
 
@@ -126,12 +126,12 @@ fn through(l: Listing, carry: &mut [u8], chunk: &[u8], out: &mut [u8]) -> Listin
     ensures { λ r. ⌜ r .waiting ≤ length (now (out .entry)) ⌝ }
 {
     let idle = l.state;
-    let opened = framer::open(idle, carry, chunk);
+    let opened = opening::open(idle, carry, chunk);
     let state = opened.state;
     let open = Listing { state, ..l };
     let done = answers(open, carry, chunk, out);
     let last = done.state;
-    let closed = framer::close(last, carry, chunk);
+    let closed = opening::close(last, carry, chunk);
     count(done, closed)
 }
 
@@ -199,7 +199,7 @@ pub fn list(
 )
     requires { ⌜ 84 ≤ length (now out) ⌝ }
 {
-    let opened = framer::start(carry, mode, max);
+    let opened = opening::start(carry, mode, max);
     let state = opened.state;
     let waiting = ends::header(out, 0, mode, max, carry.len());
     let listing = Listing {

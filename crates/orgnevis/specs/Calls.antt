@@ -6,7 +6,7 @@ use Rattle.window.specs.Pick.{pick}
 use Rattle.state.specs.Refusals.{leaveNo}
 use Rattle.taking.specs.declared.Side.the-variants.{Carry, Chunk}
 use Rattle.taking.specs.View.{viewLeave}
-use Rattle.framer.specs.Operations.{start, opening, closing}
+use Rattle.opening.specs.Operations.{start, opening, closing}
 use Rattle.framer.specs.Step.{step}
 use Rattle.words.specs.declared.ModeRead.{ModeRead, the-variants.{Known, NoMode}}
 use Rattle.words.specs.declared.Read.{Read, the-variants.{Is, NoState}}

@@ -20,7 +20,7 @@ pub extern "C" fn orgnevis_start(state: &mut [u64; 24], carry: &[u8], mode: u64,
     match read {
         ModeRead::NoMode => 8,
         ModeRead::Known(mode) => {
-            let started = framer::start(carry, mode, max);
+            let started = opening::start(carry, mode, max);
             let next = started.state;
             words::write_state(next, state);
             let leave = started.leave;
@@ -39,7 +39,7 @@ pub extern "C" fn orgnevis_open(state: &mut [u64; 24], carry: &[u8], chunk: &[u8
     match read {
         Read::NoState => 2,
         Read::Is(s) => {
-            let opened = framer::open(s, carry, chunk);
+            let opened = opening::open(s, carry, chunk);
             let next = opened.state;
             let leave = opened.leave;
             match leave {
@@ -94,7 +94,7 @@ pub extern "C" fn orgnevis_close(
     match read {
         Read::NoState => words::write_report(out, 2, 0, 0, 0),
         Read::Is(s) => {
-            let closed = framer::close(s, carry, chunk);
+            let closed = opening::close(s, carry, chunk);
             let leave = closed.leave;
             match leave {
                 Leave::Denied(refusal) => words::write_report(

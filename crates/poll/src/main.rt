@@ -72,13 +72,13 @@ fn say_totals(used: usize, kept: usize, lost: usize) {
 fn list(mode: Mode, chunk: &[u8]) {
     let mut carry = [0u8; 247];
     say_header(mode, carry.len());
-    let started = framer::start(&carry, mode, MAX);
+    let started = opening::start(&carry, mode, MAX);
     let fresh = started.state;
-    let opened = framer::open(fresh, &carry, chunk);
+    let opened = opening::open(fresh, &carry, chunk);
     let open = opened.state;
     let first = say_step(open, &mut carry, chunk);
     let second = say_step(first, &mut carry, chunk);
-    let closed = framer::close(second, &mut carry, chunk);
+    let closed = opening::close(second, &mut carry, chunk);
     say_totals(closed.used, closed.kept, closed.lost);
 }
 

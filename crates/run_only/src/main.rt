@@ -33,13 +33,13 @@ fn say_answer(answer: Answer) {
 
 // Opens on a chunk, steps once and closes; says the answer and the close's counts.
 fn run_chunk(s: State, carry: &mut [u8], chunk: &[u8]) -> State {
-    let opened = framer::open(s, carry, chunk);
+    let opened = opening::open(s, carry, chunk);
     let first = opened.state;
     let stepped = framer::step(first, carry, chunk);
     let answer = stepped.answer;
     say_answer(answer);
     let second = stepped.state;
-    let closed = framer::close(second, carry, chunk);
+    let closed = opening::close(second, carry, chunk);
     let leave = closed.leave;
     match leave {
         Leave::Granted => {}
@@ -58,7 +58,7 @@ fn sentence(chunk: &[u8]) {
     let mut carry = [0u8; 128];
     say_number(b"sentence ", chunk.len());
     say(b":");
-    let started = framer::start(&carry, Mode::Three(false), MAX);
+    let started = opening::start(&carry, Mode::Three(false), MAX);
     let state = started.state;
     run_chunk(state, &mut carry, chunk);
 }
@@ -69,7 +69,7 @@ fn rtcm(carry: &mut [u8]) {
     let body = [0u8; 1023];
     say_number(b"carry ", carry.len());
     say(b":");
-    let started = framer::start(carry, Mode::Two(false), MAX);
+    let started = opening::start(carry, Mode::Two(false), MAX);
     let fresh = started.state;
     let waiting = run_chunk(fresh, carry, &head);
     say(b"  then:");

@@ -5,8 +5,8 @@ use mathlib.Core.Bool.{Bool, true, false}
 use mathlib.Core.List.{List}
 use lib.ListN.{length}
 use Rattle.state.specs.declared.State.{State}
-use Rattle.framer.specs.declared.Closed.{Closed}
-use Rattle.framer.specs.Operations.{opening, closing}
+use Rattle.opening.specs.declared.Closed.{Closed}
+use Rattle.opening.specs.Operations.{opening, closing}
 use Rattle.text.specs.Text.{Puts}
 use Rattle.stamp.specs.declared.Clock.{Clock}
 use Rattle.stamp.specs.Step.{TimedOut, step}

@@ -4,8 +4,8 @@ ghost use mathlib.Core.Path.{_≡_};
 ghost use Prim.Native.Nat.{_+_, _≤_};
 ghost use lib.ListN.{length};
 ghost use Rattle.stamper.specs.Stamping.{flushed, counted, Makes, Tells, Steps, Through};
-use framer::Closed;
 use libc::STDOUT_FILENO;
+use opening::Closed;
 use stamp::Clock;
 use stamp_lines::Tally;
 use state::State;
@@ -130,12 +130,12 @@ pub fn through(l: Stamping, carry: &mut [u8], chunk: &[u8], out: &mut [u8]) -> S
     ensures { λ r. ⌜ Through l (now (carry .entry)) (now (chunk .entry)) (now (out .entry)) r (now (carry .exit)) ⌝ }
 {
     let idle = l.state;
-    let opened = framer::open(idle, carry, chunk);
+    let opened = opening::open(idle, carry, chunk);
     let state = opened.state;
     let begun = Stamping { state, ..l };
     let done = steps(begun, carry, chunk, out);
     let last = done.state;
-    let closed = framer::close(last, carry, chunk);
+    let closed = opening::close(last, carry, chunk);
     count(done, closed)
 }
 
@@ -192,7 +192,7 @@ pub fn stamps(
 )
     requires { ⌜ 218 ≤ length (now out) ⌝ }
 {
-    let opened = framer::start(carry, mode, max);
+    let opened = opening::start(carry, mode, max);
     let state = opened.state;
     let tally = Tally {
         stamps: 0,

@@ -19,7 +19,7 @@ use Rattle.state.proofs.Window.{Setup, setupOf}
 use Rattle.state.proofs.Granted.{use-granted}
 use Rattle.taking.specs.declared.Place.{Place}
 use Rattle.taking.specs.Take.{taking}
-use Rattle.framer.specs.Operations.{openOn, opening, closeOn, closing}
+use Rattle.opening.specs.Operations.{openOn, opening, closeOn, closing}
 use Rattle.framer.specs.Step.{StepOut, act, moveOf, stepBy, stepOn, step}
 use Rattle.framer.specs.Reached.{isDenied, isRefused}
 use Rattle.framer.proofs.Account.{step-keeps}

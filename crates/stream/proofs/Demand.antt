@@ -11,7 +11,7 @@ use Rattle.look.specs.Rules.{look}
 use Rattle.look.specs.Moves.{stepMove}
 use Rattle.state.specs.Words.{leftLen, window, idle}
 use Rattle.state.proofs.Window.{Setup}
-use Rattle.framer.specs.Operations.{start}
+use Rattle.opening.specs.Operations.{start}
 use Rattle.stream.specs.Scan.{scanMove, Scan, scan}
 use Rattle.stream.specs.Calls.{hearsAll}
 use Rattle.stream.specs.Runs.{between, joined}

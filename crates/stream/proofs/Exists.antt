@@ -14,12 +14,12 @@ use Rattle.state.specs.declared.State.{State}
 use Rattle.state.specs.Words.{window, width, idle}
 use Rattle.state.proofs.Window.{Setup}
 use Rattle.state.proofs.Granted.{Usable, grant-use, Openable, grant-open, drain-ready}
-use Rattle.framer.specs.Operations.{start, noted, drainTo, opening, closing}
+use Rattle.opening.specs.Operations.{start, noted, drainTo, opening, closing}
 use Rattle.framer.specs.Step.{stepFrom, step}
 use Rattle.framer.specs.Reached.{isDenied, isRefused, isNeedMore}
-use Rattle.framer.proofs.Closing.{closed-length}
+use Rattle.opening.proofs.Closing.{closed-length}
 use Rattle.framer.proofs.Account.{Keeps, step-keeps}
-use Rattle.framer.proofs.Ready.{noted-ready}
+use Rattle.opening.proofs.Ready.{noted-ready}
 use Rattle.framer.proofs.Totals.{kept-sum}
 use Rattle.stream.specs.Calls.{Parser, own, Call, opens, steps, closes, after, refused}
 use Rattle.stream.specs.Runs.{Phase, between, within, needsMore, Follows, done, opened, stepped, spent, closed}

@@ -26,12 +26,12 @@ use Rattle.state.proofs.Granted.{use-granted, open-granted}
 use Rattle.taking.specs.View.{view}
 use Rattle.taking.specs.Take.{taking}
 use Rattle.taking.proofs.Took.{Took, took}
-use Rattle.framer.specs.Operations.{noted, drainTo, opening, closing}
+use Rattle.opening.specs.Operations.{noted, drainTo, opening, closing}
 use Rattle.framer.specs.Step.{StepOut, act, moveOf, stepBy}
 use Rattle.framer.specs.Reached.{isNeedMore}
-use Rattle.framer.proofs.Closing.{closed-keeps}
+use Rattle.opening.proofs.Closing.{closed-keeps}
 use Rattle.framer.proofs.Account.{moves-in}
-use Rattle.framer.proofs.Ready.{noted-ready}
+use Rattle.opening.proofs.Ready.{noted-ready}
 use Rattle.stream.specs.Scan.{body}
 use Rattle.stream.specs.Calls.{heard}
 use Rattle.stream.proofs.Cases.{frame-heard, tale-heard}

@@ -9,7 +9,7 @@ use Rattle.state.specs.declared.State.{State}
 use Rattle.taking.specs.declared.Place.{Place}
 use Rattle.taking.specs.View.{mayView, view}
 use Rattle.framer.specs.declared.Answer.{Answer, the-variants.{UbxFrame, RtcmFrame, Sentence, WrongSum, NoRoom, NeedMore, Refused, WrongParity}}
-use Rattle.framer.specs.Operations.{CloseOut, start, opening, closing}
+use Rattle.opening.specs.Operations.{CloseOut, start, opening, closing}
 use Rattle.framer.specs.Step.{StepOut, step}
 use Rattle.framer.specs.Reached.{isDenied, isRefused}
 use Rattle.stream.specs.Scan.{Event, ubxFrame, rtcmFrame, sentence, wrongSum, wrongParity, noRoom}

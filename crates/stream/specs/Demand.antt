@@ -6,7 +6,7 @@ use mathlib.Core.List.{List, [], _∷_}
 use lib.ListN.{length, take}
 use Rattle.window.specs.declared.Mode.{Mode, the-variants.{One, Two, Three}}
 use Rattle.claim.specs.Sizes.{around}
-use Rattle.framer.specs.Operations.{start}
+use Rattle.opening.specs.Operations.{start}
 use Rattle.stream.specs.Scan.{Said, ubxFrame, rtcmFrame, sentence, wrongSum, wrongParity, noRoom, Event, scan}
 use Rattle.stream.specs.Calls.{Parser, Call, afterAll, hearsAll, losesAll}
 use Rattle.stream.specs.Runs.{between, Follows, joined}

@@ -15,8 +15,8 @@ use Rattle.state.specs.Words.{width, idle}
 use Rattle.state.specs.Refusals.{mayOpen, mayUse}
 use Rattle.state.proofs.Window.{Setup, setupOf}
 use Rattle.state.proofs.Granted.{use-granted}
-use Rattle.framer.specs.declared.Closed.{Closed}
-use Rattle.framer.specs.Operations.{openOn, opening, closeOn, closing}
+use Rattle.opening.specs.declared.Closed.{Closed}
+use Rattle.opening.specs.Operations.{openOn, opening, closeOn, closing}
 use Rattle.framer.specs.Step.{stepOn, step}
 use Rattle.framer.proofs.Account.{step-keeps}
 use Rattle.words.specs.declared.Read.the-variants.{Is}

@@ -11,7 +11,7 @@ use Rattle.state.specs.declared.State.{State}
 use Rattle.state.specs.Refusals.{anyOf, refusalNo, leaveNo}
 use Rattle.taking.specs.declared.Place.{Place}
 use Rattle.framer.specs.declared.Answer.{Answer, the-variants.{UbxFrame, RtcmFrame, Sentence, WrongSum, NoRoom, NeedMore, Refused, WrongParity}}
-use Rattle.framer.specs.declared.Closed.{Closed}
+use Rattle.opening.specs.declared.Closed.{Closed}
 use Rattle.framer.specs.Answers.{sideNo}
 use Rattle.words.specs.declared.ModeRead.{ModeRead, the-variants.{Known, NoMode}}
 use Rattle.words.specs.declared.Read.{Read, the-variants.{Is, NoState}}

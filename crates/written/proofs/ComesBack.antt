@@ -25,7 +25,7 @@ use Rattle.taking.specs.declared.Place.{Place}
 use Rattle.taking.specs.View.{view}
 use Rattle.taking.specs.Take.{taking}
 use Rattle.framer.specs.declared.Answer.the-variants.{UbxFrame, NeedMore}
-use Rattle.framer.specs.Operations.{start, opening, closing}
+use Rattle.opening.specs.Operations.{start, opening, closing}
 use Rattle.framer.specs.Step.{out, step}
 use Rattle.stream.specs.Scan.{Event}
 use Rattle.stream.specs.Calls as calls

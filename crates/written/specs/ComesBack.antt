@@ -8,9 +8,9 @@ use Rattle.state.specs.declared.Leave.the-variants.{Granted as FramerGranted}
 use Rattle.taking.specs.declared.Side.the-variants.{Chunk}
 use Rattle.taking.specs.declared.Place.{Place}
 use Rattle.taking.specs.View.{view}
-use Rattle.framer.specs.declared.Opened.{Opened}
+use Rattle.opening.specs.declared.Opened.{Opened}
 use Rattle.framer.specs.declared.Answer.the-variants.{UbxFrame, NeedMore}
-use Rattle.framer.specs.Operations.{CloseOut, start, opening, closing}
+use Rattle.opening.specs.Operations.{CloseOut, start, opening, closing}
 use Rattle.framer.specs.Step.{StepOut, step}
 use Rattle.stream.specs.Calls.{Call, afterAll, hearsAll, losesAll}
 use Rattle.stream.specs.Runs.{between, Follows, joined}

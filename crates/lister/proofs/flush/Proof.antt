@@ -1,7 +1,6 @@
 -- `lister::flush` meets its contract.
 use mathlib.Core.Path.{sym}
 use lib.Seq.{length-take-le}
--- `lister::flush` meets its contract.
 use borrow.Author.Needs.{needs}
 use Rattle.lister.proofs.flush.Statement.{statement}
 use Rattle.lister.proofs.flush.Tie as tie

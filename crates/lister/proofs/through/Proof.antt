@@ -1,9 +1,9 @@
 -- `lister::through` meets its contract: each operation is its definition.
 use mathlib.Core.Path.{ap}
 use native.Mathlib.Omega.{arith}
-use Rattle.framer.specs.declared.Opened.{Opened}
-use Rattle.framer.specs.Operations.{opening, closing}
-use Rattle.framer.proofs.Determined.{opens-is, closes-is}
+use Rattle.opening.specs.declared.Opened.{Opened}
+use Rattle.opening.specs.Operations.{opening, closing}
+use Rattle.opening.proofs.Determined.{opens-is, closes-is}
 use borrow.Author.Needs.{needs}
 use Rattle.lister.proofs.through.Statement.{statement}
 use Rattle.lister.proofs.through.Tie as tie

@@ -1,8 +1,8 @@
 -- `orgnevis::orgnevis_close` meets its contract.
 use mathlib.Core.Path.{sym, ap, _∙_}
-use Rattle.framer.specs.declared.Closed.{Closed}
-use Rattle.framer.specs.Operations.{closing}
-use Rattle.framer.proofs.Determined.{closes-is}
+use Rattle.opening.specs.declared.Closed.{Closed}
+use Rattle.opening.specs.Operations.{closing}
+use Rattle.opening.proofs.Determined.{closes-is}
 use Rattle.orgnevis.specs.Calls.{closes}
 use Rattle.words.proofs.Kept.{close-keeps, close-refused, same, closed-words}
 use borrow.Author.Needs.{needs}

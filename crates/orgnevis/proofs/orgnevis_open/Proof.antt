@@ -1,8 +1,8 @@
 -- `orgnevis::orgnevis_open` meets its contract.
 use mathlib.Core.Path.{sym, ap, _∙_}
-use Rattle.framer.specs.declared.Opened.{Opened}
-use Rattle.framer.specs.Operations.{opening}
-use Rattle.framer.proofs.Determined.{opens-is}
+use Rattle.opening.specs.declared.Opened.{Opened}
+use Rattle.opening.specs.Operations.{opening}
+use Rattle.opening.proofs.Determined.{opens-is}
 use Rattle.orgnevis.specs.Calls.{opens}
 use Rattle.words.proofs.Kept.{open-keeps, open-refused, same, opened-words}
 use borrow.Author.Needs.{needs}

@@ -1,8 +1,8 @@
 -- `orgnevis::orgnevis_start` meets its contract.
 use mathlib.Core.Path.{sym, _∙_}
 use lib.ListN.{length}
-use Rattle.framer.specs.Operations.{start}
-use Rattle.framer.proofs.Determined.{opens-is}
+use Rattle.opening.specs.Operations.{start}
+use Rattle.opening.proofs.Determined.{opens-is}
 use Rattle.orgnevis.specs.Calls.{starts}
 use borrow.Author.Needs.{needs}
 use Rattle.orgnevis.proofs.orgnevis_start.Statement.{statement}

@@ -1,8 +1,8 @@
 -- `stamper::through` meets its contract: each operation is its definition.
 use mathlib.Core.Path.{ap}
-use Rattle.framer.specs.declared.Opened.{Opened}
-use Rattle.framer.specs.Operations.{opening, closing}
-use Rattle.framer.proofs.Determined.{opens-is, closes-is}
+use Rattle.opening.specs.declared.Opened.{Opened}
+use Rattle.opening.specs.Operations.{opening, closing}
+use Rattle.opening.proofs.Determined.{opens-is, closes-is}
 use Rattle.stamper.specs.Stamping.{pointOf}
 use borrow.Author.Needs.{needs}
 use Rattle.stamper.proofs.through.Statement.{statement}

@@ -1,11 +1,11 @@
--- `framer::open` meets its contract.
+-- `opening::open` meets its contract.
 use mathlib.Core.Path.{refl, sym, _∙_}
 use Rattle.state.proofs.Granted.{open-granted}
-use Rattle.framer.specs.Operations.{opening}
-use Rattle.framer.proofs.Ready.{noted-ready}
+use Rattle.opening.specs.Operations.{opening}
+use Rattle.opening.proofs.Ready.{noted-ready}
 use borrow.Author.Needs.{needs}
-use Rattle.framer.proofs.open.Statement.{statement}
-use Rattle.framer.proofs.open.Tie as tie
+use Rattle.opening.proofs.open.Statement.{statement}
+use Rattle.opening.proofs.open.Tie as tie
 
 may-open-requires : tie.Need-may-open-requires
 may-open-requires c κs = search needs

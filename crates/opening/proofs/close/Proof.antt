@@ -1,10 +1,10 @@
--- `framer::close` meets its contract.
+-- `opening::close` meets its contract.
 use mathlib.Core.Path.{refl, sym, _∙_}
 use Rattle.state.proofs.Granted.{use-granted}
-use Rattle.framer.specs.Operations.{closing}
+use Rattle.opening.specs.Operations.{closing}
 use borrow.Author.Needs.{needs}
-use Rattle.framer.proofs.close.Statement.{statement}
-use Rattle.framer.proofs.close.Tie as tie
+use Rattle.opening.proofs.close.Statement.{statement}
+use Rattle.opening.proofs.close.Tie as tie
 
 may-use-requires : tie.Need-may-use-requires
 may-use-requires c κs = search needs

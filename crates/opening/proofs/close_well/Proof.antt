@@ -1,14 +1,13 @@
--- `framer::close_well` meets its contract.
+-- `opening::close_well` meets its contract.
 use Prim.Native.Nat.{_≤_, _-_}
-use Rattle.framer.proofs.Closing.{kept-is, lost-is}
--- `framer::close_well` meets its contract.
+use Rattle.opening.proofs.Closing.{kept-is, lost-is}
 use mathlib.Core.Path.{_∙_}
 use native.Mathlib.Omega.{arith}
 use Rattle.window.proofs.Laws.{from}
 use Rattle.state.specs.Words.{leftLen}
 use borrow.Author.Needs.{needs}
-use Rattle.framer.proofs.close_well.Statement.{statement}
-use Rattle.framer.proofs.close_well.Tie as tie
+use Rattle.opening.proofs.close_well.Statement.{statement}
+use Rattle.opening.proofs.close_well.Tie as tie
 
 sub-rest : tie.Need-sub-rest
 sub-rest c = search needs

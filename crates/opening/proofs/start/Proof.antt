@@ -1,11 +1,11 @@
--- `framer::start` meets its contract.
+-- `opening::start` meets its contract.
 use mathlib.Core.Path.{refl}
 use borrow.Author.Tests.{lt-ltb, le-ltb}
 use Rattle.window.specs.Pick.{pick}
-use Rattle.framer.specs.Operations.{start}
+use Rattle.opening.specs.Operations.{start}
 use borrow.Author.Needs.{needs}
-use Rattle.framer.proofs.start.Statement.{statement}
-use Rattle.framer.proofs.start.Tie as tie
+use Rattle.opening.proofs.start.Statement.{statement}
+use Rattle.opening.proofs.start.Tie as tie
 
 idle-requires : tie.Need-idle-requires
 idle-requires c κs = search needs

@@ -14,8 +14,8 @@ use Rattle.state.specs.declared.Refusal.the-variants.{CarryTooBig}
 use Rattle.state.specs.declared.Leave.{Leave, the-variants.{Granted, Denied}}
 use Rattle.state.specs.Words.{leftLen, ahead, window, width, fitting, drain, idle}
 use Rattle.state.specs.Refusals.{mayOpen, mayUse}
-use Rattle.framer.specs.declared.Opened.{Opened}
-use Rattle.framer.specs.declared.Closed.{Closed}
+use Rattle.opening.specs.declared.Opened.{Opened}
+use Rattle.opening.specs.declared.Closed.{Closed}
 
 -- ---- starting
 

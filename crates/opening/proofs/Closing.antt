@@ -11,7 +11,7 @@ use Rattle.state.specs.declared.Leave.the-variants.{Granted}
 use Rattle.state.specs.Words.{left, leftLen, ahead, window, width, fitting}
 use Rattle.state.specs.Ready.{Sane}
 use Rattle.state.proofs.Window.{take-both, take-min, left-length, ahead-length, drained-length}
-use Rattle.framer.specs.Operations.{closeOn}
+use Rattle.opening.specs.Operations.{closeOn}
 
 module _ (s : State) (carry chunk : List ℕ) (ok : Sane s carry chunk) where
   pub closed-length : length (closeOn s carry chunk Granted .carry) ≡ length carry

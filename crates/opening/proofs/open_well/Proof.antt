@@ -1,4 +1,4 @@
--- `framer::open_well` meets its contract: the two slices are the window of the opened state.
+-- `opening::open_well` meets its contract: the two slices are the window of the opened state.
 use mathlib.Core.Path.{sym, ap, _∙_}
 use mathlib.Core.List.{List, _++_}
 use Prim.Native.Nat.{ℕ, _≤_, _<_}
@@ -10,11 +10,11 @@ use Rattle.window.specs.Pick.{pick}
 use Rattle.window.specs.Sync.{firstSync}
 use Rattle.state.specs.Words.{window, width}
 use Rattle.state.proofs.Window.{drain-zero}
-use Rattle.framer.specs.Operations.{noted}
-use Rattle.framer.proofs.Slices.{left-part, syncs-at-once}
+use Rattle.opening.specs.Operations.{noted}
+use Rattle.opening.proofs.Slices.{left-part, syncs-at-once}
 use borrow.Author.Needs.{needs}
-use Rattle.framer.proofs.open_well.Statement.{statement}
-use Rattle.framer.proofs.open_well.Tie as tie
+use Rattle.opening.proofs.open_well.Statement.{statement}
+use Rattle.opening.proofs.open_well.Tie as tie
 
 shared-slice-read-is-sync : tie.Need-shared-slice-read-is-sync
 shared-slice-read-is-sync c = search needs

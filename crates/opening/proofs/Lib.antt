@@ -1,0 +1,4 @@
+pub mod Ready
+pub mod Closing
+pub mod Slices
+pub mod Determined
