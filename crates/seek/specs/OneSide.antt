@@ -1,4 +1,4 @@
--- What one side of the window tells by itself: what the inner functions of `seek` are told and answer.
+-- What one side of the window tells of its front: what the inner functions of `seek` are told and answer.
 use mathlib.Core.Path.{_≡_}
 use mathlib.Core.Bool.{false}
 use mathlib.Core.Logic.{_⊎_}

@@ -1,5 +1,6 @@
-// The loop that passes what is to be passed in silence, until something is to be said: at one side of the window alone as long
-// as that tells, then at both. Rust: parser.rs, the loops around the heads of the three iterators' `next`.
+// The loop that passes what is to be passed in silence, until something is to be said: at the heads on one side of the window as
+// long as these tell, then at both sides; and what is told of a frame that waits, or that one side has all of, before it. Rust:
+// parser.rs, the loops around the heads of the three iterators' `next`.
 ghost use mathlib.Core.Path.{_≡_};
 ghost use mathlib.Core.Bool.{true, false};
 ghost use mathlib.Core.List.{List, _++_};
@@ -66,7 +67,8 @@ fn first_of<'a>(a: &'a [u8], b: &'a [u8]) -> &'a [u8]
     if a.len() == 0 { b } else { a }
 }
 
-// Rule 2, where one side has the head. The window has w bytes; b stands behind that side, if anything does.
+// Rule 2, where one side has the head. The window has w bytes; b stands behind that side, if anything does. A frame on both sides
+// that is too long for the carry is left to the look at both.
 fn glance_ubx(max: u16, cap: usize, s: &[u8], b: &[u8], w: usize) -> Hint
     requires { ⌜ (6 ≤ length (now s)) × (w ≤ length (now s) + length (now b)) ⌝ }
     ensures { λ r. ⌜ ((u : ℕ) (W : List ℕ) → Begins (now (s .entry)) W u w → Beside (now (s .entry)) (now (b .entry)) W u → Tells r (settled cap u W (lookUbx max W))) ⌝ }
@@ -101,7 +103,8 @@ fn glance_ubx(max: u16, cap: usize, s: &[u8], b: &[u8], w: usize) -> Hint
     Hint::Sure(v)
 }
 
-// Rule 3, where one side has the head. A whole frame that is read with parity is left to the look at both sides.
+// Rule 3, where one side has the head. A whole frame that is read with parity, or that lies on both sides and is too long for the
+// carry, is left to the look at both.
 fn glance_rtcm(parity: bool, cap: usize, s: &[u8], w: usize) -> Hint
     requires { ⌜ 3 ≤ length (now s) ⌝ }
     ensures { λ r. ⌜ ((u : ℕ) (W : List ℕ) → Begins (now (s .entry)) W u w → Tells r (settled cap u W (lookRtcm parity W))) ⌝ }
