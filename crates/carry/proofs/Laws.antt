@@ -4,9 +4,9 @@ use Prim.Native.Nat.{ℕ, zero, suc, _+_, _-_, _≤_, _<_}
 use native.Mathlib.Nat.{le-of-suc-le-suc, not-suc-le-zero, zero-add, suc-add, sub-zero}
 use native.Mathlib.Numerals.{add-one}
 use native.Mathlib.Omega.{arith}
-use mathlib.Core.List.{List, [], _∷_, _++_}
+use mathlib.Core.List.{List, [], _∷_, _++_, append-assoc}
 use lib.ListN.{length, take, drop, getD, set, length-drop, take-append-drop, drop-of-length-le}
-use lib.Seq.{getD-drop, getD-append-add, length-take-le, take-nil}
+use lib.Seq.{getD-drop, getD-append-add, length-take-le, take-nil, take-append-le, take-append-add, take-take, take-add, drop-append-add, drop-drop, paste, length-paste-head}
 use Rattle.carry.specs.Carry.{drainCarry}
 
 -- a store takes the copy of i bytes to the copy of one more
@@ -52,3 +52,30 @@ drain-ends xs k live h =
     let e : live ≡ k + (live - k) = omega arith in
     let d : drop k (take live xs) ≡ take (live - k) (drop k xs) = ap (λ (n : ℕ). drop k (take n xs)) e ∙ drop-take k (live - k) xs in
     rw d
+
+-- ---- a copy of i elements, and over it the block of `size` elements that starts at j
+
+-- before the block the copy has j elements
+before-block : (d : List ℕ) (at : ℕ) (s : List ℕ) (i j : ℕ) → j ≤ i → at ≤ length d → i ≤ length s → take (at + j) (paste d at s i) ≡ take at d ++ take j s
+before-block d at s i j less hd hs =
+    let inside : at + j ≤ length (take at d ++ take i s) = rw (length-paste-head d at s i hd hs) (omega arith) in
+    take-append-le (at + j) (take at d ++ take i s) (drop (at + i) d) inside
+    ∙ ap (λ (n : ℕ). take (n + j) (take at d ++ take i s)) (sym (length-take-le at d hd))
+    ∙ take-append-add (take at d) (take i s) j
+    ∙ ap (λ (l : List ℕ). take at d ++ l) (take-take j i s less)
+
+-- behind it all is as it was before the copy
+behind-block : (d : List ℕ) (at : ℕ) (s : List ℕ) (i e : ℕ) → i ≤ e → at ≤ length d → i ≤ length s → drop (at + e) (paste d at s i) ≡ drop (at + e) d
+behind-block d at s i e less hd hs =
+    let p : List ℕ = take at d ++ take i s in
+    let far : at + e ≡ at + i + (e - i) = omega arith in
+    ap (λ (n : ℕ). drop n (p ++ drop (at + i) d)) (far ∙ ap (λ (n : ℕ). n + (e - i)) (sym (length-paste-head d at s i hd hs)))
+    ∙ drop-append-add p (drop (at + i) d) (e - i)
+    ∙ drop-drop (e - i) (at + i) d
+    ∙ ap (λ (n : ℕ). drop n d) (sym far)
+
+-- a block that starts no later than the copy ends, and ends no earlier, takes the copy to the block's end
+pub paste-block : (d : List ℕ) (at : ℕ) (s : List ℕ) (i j size : ℕ) → j ≤ i → i ≤ j + size → at ≤ length d → i ≤ length s → paste (paste d at s i) (at + j) (take size (drop j s)) size ≡ paste d at s (j + size)
+paste-block d at s i j size starts ends hd hs =
+    let same : at + j + size ≡ at + (j + size) = omega arith in
+    rw (same, before-block d at s i j, behind-block d at s i (j + size), take-take size size (drop j s) (omega arith), take-add j size s) (simp append-assoc)

@@ -1,4 +1,4 @@
--- `carry::extend` meets its contract: after i turns the first i bytes have been copied.
+-- `carry::extend_by_bytes` meets its contract: after i turns the first i bytes have been copied.
 use mathlib.Core.Path.{_≡_, refl, _∙_}
 use Prim.Native.Nat.{_+_, _-_, _≤_}
 use native.Mathlib.Numerals.{add-one}
@@ -6,8 +6,8 @@ use native.Mathlib.Omega.{arith}
 use lib.ListN.{length, getD, length-set}
 use lib.Seq.{paste, paste-zero, paste-suc}
 use borrow.Author.Needs.{needs}
-use Rattle.carry.proofs.extend.Statement.{statement}
-use Rattle.carry.proofs.extend.Tie as tie
+use Rattle.carry.proofs.extend_by_bytes.Statement.{statement}
+use Rattle.carry.proofs.extend_by_bytes.Tie as tie
 
 abbrev Inv-loop : tie.InvT-loop
 Inv-loop carry₀ live from n i₀ carry i = (i ≤ n) × ((carry ≡ paste carry₀ live from i) × (length carry ≡ length carry₀))
@@ -42,19 +42,16 @@ loop-again c = let at = c .before .before in let x = at .before .args in (
   ),
 )
 
-add-result : tie.Need-add-result Inv-loop μ-loop
-add-result c = search needs
-
 same-length : tie.Need-same-length Inv-loop μ-loop
 same-length c = search needs
 
 returns : tie.Need-returns Inv-loop μ-loop
 returns c = let x = c .before .before .args in
     let e : c .before .loop .i ≡ x .n = omega arith in
-    (refl, c .before .loop .inv .1 .0 ∙ rw e)
+    c .before .loop .inv .1 .0 ∙ rw e
 
-pub extend-spec : {M : Type 1} → statement M
-extend-spec =
+pub extend-by-bytes-spec : {M : Type 1} → statement M
+extend-by-bytes-spec =
     tie.close
     (tie.spec
     Inv-loop
@@ -66,6 +63,5 @@ extend-spec =
     add-i
     loop-less
     loop-again
-    add-result
     same-length
     returns)
