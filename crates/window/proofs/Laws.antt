@@ -1,6 +1,6 @@
 -- Laws of two lists read as one, of the first of some bytes, and of the end mark.
-use mathlib.Core.Path.{_≡_, refl, sym, ap, _∙_}
-use mathlib.Core.Bool.{Bool, true, false, _&&_, _||_, and-false, or-false, true≢false}
+use mathlib.Core.Path.{_≡_, refl, sym, ap, fun-ext, _∙_}
+use mathlib.Core.Bool.{Bool, true, false, _&&_, _||_, and-false, or-false, or-assoc, true≢false}
 use mathlib.Core.List.{List, [], _∷_, _++_}
 use Prim.Native.Nat.{ℕ, zero, suc, _+_, _-_, _≤_, _<_, min}
 use native.Mathlib.Nat.{add-zero, add-sub-of-le, sub-zero, suc-sub-suc, zero-min, min-zero, suc-min-suc}
@@ -10,10 +10,11 @@ use lib.Seq.{drop-cons, drop-drop, getD-drop, getD-append-add, length-take-le, t
 use lib.Dec.{eqb}
 use Rattle.window.specs.Pick.{pick}
 use Rattle.window.proofs.Pick.{by-pick}
-use Rattle.window.specs.Sync.{isMore, isSync, first}
+use Rattle.window.specs.Sync.{isSync, first}
 use Rattle.window.specs.EndMark.{endMark}
-use Rattle.window.specs.Search.{is, anyOf}
-use Rattle.window.specs.declared.Mode.{Mode}
+use Rattle.window.specs.Search.{is, syncsOf, told, anyOf}
+use Rattle.window.specs.declared.Mode.{Mode, the-variants.{One, Two, Three}}
+use Rattle.window.specs.declared.Needle.the-variants.{UbxRtcm, UbxRtcmNmea}
 use Rattle.window.specs.declared.Found.the-variants.{At, Nothing}
 
 -- ---- two lists read as one
@@ -135,6 +136,26 @@ module _ (t : ℕ → Bool) where
       let f = first-right (take n d) (drop n d) (none-in (take n d) e) in
       ap (λ (z : List ℕ). first t z) (sym (take-append-drop n d)) ∙ f ∙ rw (k, drop-drop)
 
+  -- and so from a place within it on
+  first-skip : (l : List ℕ) (n : ℕ) → n ≤ first t l → first t l ≡ n + first t (drop n l)
+  unfolding first pick
+  first-skip l zero h = omega arith
+  first-skip [] (suc n) h = absurd (omega arith)
+  first-skip (x ∷ l) (suc n) h = go (t x) (first-skip l n) h
+    where
+      go : (u : Bool) → (n ≤ first t l → first t l ≡ n + first t (drop n l))
+          → suc n ≤ pick u 0 (suc (first t l)) → pick u 0 (suc (first t l)) ≡ suc n + first t (drop n l)
+      go true ih k = absurd (omega arith)
+      go false ih k = omega (arith, ih (omega arith))
+
+  pub first-within : (l : List ℕ) (j i n : ℕ) → j ≤ i → i ≤ j + n → j + n ≤ length l → anyOf t (take n (drop j l)) ≡ false
+      → i + first t (drop i l) ≡ j + n + first t (drop (j + n) l)
+  first-within l j i n p q h e =
+      let f = first-past l j n h e in
+      let s = first-skip (drop j l) (i - j) (omega arith) in
+      let d : drop (i - j) (drop j l) ≡ drop i l = drop-drop (i - j) j l ∙ ap (λ (k : ℕ). drop k l) (add-sub-of-le p) in
+      omega (arith, rw d at s)
+
 -- from k on: what is found in a part, and in two lists read as one
 module _ (t : ℕ → Bool) where
   pub first-part : (l : List ℕ) (k r : ℕ) → r ≡ first t (take (length l - k) (drop k l)) → (r ≡ first t (drop k l)) × (r ≤ length l - k)
@@ -166,13 +187,18 @@ any-or p q (x ∷ l) = rw (any-or p q l) (or-swap (p x) (q x) (anyOf p l) (anyOf
     or-swap false true false d = refl
     or-swap false false c d = refl
 
-pub any-never : (l : List ℕ) → anyOf (λ (x : ℕ). false) l ≡ false
-unfolding anyOf
-any-never [] = refl
-any-never (x ∷ l) = any-never l
+-- of the sync bytes of modes two and three, each by itself
+pub any-two : (l : List ℕ) → anyOf (told UbxRtcm) l ≡ (anyOf (is 0xB5) l || anyOf (is 0xD3) l)
+any-two l = any-or (is 0xB5) (is 0xD3) l
 
-pub sync-split : (m : Mode) (l : List ℕ) → anyOf (isSync m) l ≡ (anyOf (is 0xB5) l || anyOf (isMore m) l)
-sync-split m l = any-or (is 0xB5) (isMore m) l
+pub any-three : (l : List ℕ) → anyOf (told UbxRtcmNmea) l ≡ (anyOf (is 0xB5) l || anyOf (is 0xD3) l || anyOf (is 0x24) l)
+any-three l = any-or (told UbxRtcm) (is 0x24) l ∙ rw (any-two l)
+
+-- a search for a mode's sync bytes is for those of 01
+pub told-syncs : (mode : Mode) → told (syncsOf mode) ≡ isSync mode
+told-syncs (One parity) = fun-ext (λ x. sym (or-false (eqb x 0xB5)))
+told-syncs (Two parity) = refl
+told-syncs (Three parity) = fun-ext (λ x. or-assoc (eqb x 0xB5) (eqb x 0xD3) (eqb x 0x24))
 
 -- ---- the end mark
 

@@ -6,17 +6,26 @@ use mathlib.Core.Bool.{Bool, false, _||_}
 use mathlib.Core.List.{List, [], _∷_}
 use lib.ListN.{length, drop}
 use lib.Dec.{eqb}
-use Rattle.window.specs.Sync.{isSync, first}
-use Rattle.window.specs.declared.Needle.{Needle, the-variants.{Sync, Cr}}
+use Rattle.window.specs.Sync.{first}
+use Rattle.window.specs.declared.Mode.{Mode, the-variants.{One, Two, Three}}
+use Rattle.window.specs.declared.Needle.{Needle, the-variants.{Ubx, UbxRtcm, UbxRtcmNmea, Cr}}
 
 -- whether a byte is b
 abbrev pub is : ℕ → ℕ → Bool
 is b x = eqb x b
 
+-- the sync bytes of a mode, as what a search looks for
+abbrev pub syncsOf : Mode → Needle
+syncsOf (One parity) = Ubx
+syncsOf (Two parity) = UbxRtcm
+syncsOf (Three parity) = UbxRtcmNmea
+
 -- whether a search looks for a byte
 abbrev pub told : Needle → ℕ → Bool
-told (Sync mode) = isSync mode
-told Cr = is 0x0D
+told Ubx x = eqb x 0xB5
+told UbxRtcm x = eqb x 0xB5 || eqb x 0xD3
+told UbxRtcmNmea x = eqb x 0xB5 || eqb x 0xD3 || eqb x 0x24
+told Cr x = eqb x 0x0D
 
 -- whether a byte that t tells is in a list
 unfoldable pub anyOf : (ℕ → Bool) → List ℕ → Bool

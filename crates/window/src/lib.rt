@@ -8,7 +8,7 @@ ghost use Rattle.sum.specs.Sum.{sumOf};
 ghost use Rattle.parity.specs.Parity.{parityOf};
 ghost use Rattle.window.specs.Sync.{hasParity, isSync, firstSync, first};
 ghost use Rattle.window.specs.EndMark.{endMark};
-ghost use Rattle.window.specs.Search.{is, anyOf, told, PastNone, StopsBy};
+ghost use Rattle.window.specs.Search.{is, syncsOf, anyOf, told, PastNone, StopsBy};
 use sum::Sums;
 
 pub const UBX_SYNC_CHAR_1: u8 = 0xB5;
@@ -37,9 +37,11 @@ pub enum Found {
     Nothing,
 }
 
-// What a search looks for: a sync byte of a mode, or CR.
+// What a search looks for: the sync bytes of a mode, or CR.
 enum Needle {
-    Sync(Mode),
+    Ubx,
+    UbxRtcm,
+    UbxRtcmNmea,
     Cr,
 }
 
@@ -96,17 +98,14 @@ fn has(s: &[u8], x: u8) -> bool
     hit
 }
 
-// Whether a sync byte of the mode is among the bytes.
-fn any_sync(mode: Mode, s: &[u8]) -> bool
-    ensures { λ r. ⌜ r ≡ anyOf (isSync mode) (now (s .entry)) ⌝ }
+// The sync bytes of the mode, as what a search looks for.
+fn syncs(mode: Mode) -> Needle
+    ensures { λ r. ⌜ r ≡ syncsOf mode ⌝ }
 {
-    if has(s, UBX_SYNC_CHAR_1) {
-        return true;
-    }
     match mode {
-        Mode::One(_) => false,
-        Mode::Two(_) => has(s, RTCM_SYNC_CHAR),
-        Mode::Three(_) => has(s, RTCM_SYNC_CHAR) || has(s, NMEA_SYNC_CHAR),
+        Mode::One(_) => Needle::Ubx,
+        Mode::Two(_) => Needle::UbxRtcm,
+        Mode::Three(_) => Needle::UbxRtcmNmea,
     }
 }
 
@@ -115,7 +114,9 @@ fn tells(needle: Needle, x: u8) -> bool
     ensures { λ r. ⌜ r ≡ told needle x ⌝ }
 {
     match needle {
-        Needle::Sync(mode) => is_sync(mode, x),
+        Needle::Ubx => x == UBX_SYNC_CHAR_1,
+        Needle::UbxRtcm => x == UBX_SYNC_CHAR_1 || x == RTCM_SYNC_CHAR,
+        Needle::UbxRtcmNmea => x == UBX_SYNC_CHAR_1 || x == RTCM_SYNC_CHAR || x == NMEA_SYNC_CHAR,
         Needle::Cr => x == NMEA_END_CHAR_1,
     }
 }
@@ -125,12 +126,16 @@ fn any(needle: Needle, s: &[u8]) -> bool
     ensures { λ r. ⌜ r ≡ anyOf (told needle) (now (s .entry)) ⌝ }
 {
     match needle {
-        Needle::Sync(mode) => any_sync(mode, s),
+        Needle::Ubx => has(s, UBX_SYNC_CHAR_1),
+        Needle::UbxRtcm => has(s, UBX_SYNC_CHAR_1) || has(s, RTCM_SYNC_CHAR),
+        Needle::UbxRtcmNmea => has(s, UBX_SYNC_CHAR_1)
+            || has(s, RTCM_SYNC_CHAR)
+            || has(s, NMEA_SYNC_CHAR),
         Needle::Cr => has(s, NMEA_END_CHAR_1),
     }
 }
 
-// From `from` on past whole blocks of 64 bytes, or of 16, that have none of what is looked for. The sizes are written out so
+// From `from` on past whole blocks of 64 bytes that have none of what is looked for. The size is written out, here and below, so
 // that a block's bytes are compared many at a time.
 fn past_64(needle: Needle, s: &[u8], from: usize) -> usize
     requires { ⌜ from ≤ length (now s) ⌝ }
@@ -147,14 +152,18 @@ fn past_64(needle: Needle, s: &[u8], from: usize) -> usize
     i
 }
 
+// From `from` on past blocks of 16 bytes that have none of what is looked for, up to the end of s: the last block ends there and
+// may overlap the one before it, so that no byte is left behind the blocks.
 fn past_16(needle: Needle, s: &[u8], from: usize) -> usize
-    requires { ⌜ from ≤ length (now s) ⌝ }
+    requires { ⌜ (from ≤ length (now s)) × (16 ≤ length (now s)) ⌝ }
     ensures { λ r. ⌜ PastNone (told needle) (now (s .entry)) from r ⌝ }
 {
+    let last = s.len() - 16;
     let mut i = from;
-    while s.len() - i >= 16 {
-        let e = i + 16;
-        if any(needle, &s[i..e]) {
+    while i < s.len() {
+        let j = least(i, last);
+        let e = j + 16;
+        if any(needle, &s[j..e]) {
             break;
         }
         i = e;
@@ -177,8 +186,9 @@ fn past_bytes(needle: Needle, s: &[u8], from: usize, to: usize) -> usize
     i
 }
 
-// The place of the first byte of s that is looked for, or its length. Few bytes are looked at one by one; of more, the first four by
-// themselves, since what is looked for is often near; then all, past blocks that have none, and the rest one by one.
+// The place of the first byte of s that is looked for, or its length. Few bytes are looked at one by one. Of more, the blocks that have
+// none are passed; in the first block five bytes are looked at by themselves, since what is looked for is often near: behind the three
+// bytes of a parity, or the four that are left of a false head.
 fn find_in(needle: Needle, s: &[u8]) -> usize
     ensures { λ r. ⌜ r ≡ first (told needle) (now (s .entry)) ⌝ }
 {
@@ -186,11 +196,16 @@ fn find_in(needle: Needle, s: &[u8]) -> usize
     if len < 16 {
         return past_bytes(needle, s, 0, len);
     }
-    let near = past_bytes(needle, s, 0, 4);
-    if near < 4 {
-        return near;
-    }
     let far = past_64(needle, s, 0);
+    if far == 0 {
+        let near = past_bytes(needle, s, 0, 5);
+        if near < 5 {
+            return near;
+        }
+    }
+    if far == len {
+        return len;
+    }
     let late = past_16(needle, s, far);
     past_bytes(needle, s, late, len)
 }
@@ -219,7 +234,15 @@ pub fn find_sync(mode: Mode, a: &[u8], b: &[u8], k: usize) -> usize
     ensures { λ r. ⌜ r ≡ k + firstSync mode (drop k (now (a .entry) ++ now (b .entry))) ⌝ }
     ensures { λ r. ⌜ r ≤ length (now (a .entry)) + length (now (b .entry)) ⌝ }
 {
-    find(Needle::Sync(mode), a, b, k)
+    find(syncs(mode), a, b, k)
+}
+
+// The place of the first sync byte of s, or its length where there is none.
+pub fn sync_in(mode: Mode, s: &[u8]) -> usize
+    ensures { λ r. ⌜ r ≡ firstSync mode (now (s .entry)) ⌝ }
+    ensures { λ r. ⌜ r ≤ length (now (s .entry)) ⌝ }
+{
+    find_in(syncs(mode), s)
 }
 
 // The sum of the window's bytes from `from` up to, not including, `to`: it runs over the first slice's part, then on over the
