@@ -1,30 +1,21 @@
 -- A frame all of which lies on one side is handed out where it lies, and the carry stays as it is.
-use mathlib.Core.Path.{_≡_, sym, ap, _∙_}
+use mathlib.Core.Path.{_≡_}
 use mathlib.Core.Bool.{true, false}
 use mathlib.Core.List.{List}
 use mathlib.Core.Logic.{⊎-elim}
 use Prim.Native.Nat.{ℕ, _+_, _-_, _≤_, _<_, min}
 use native.Mathlib.Omega.{arith}
-use lib.ListN.{length, take, drop}
 use borrow.Author.Tests.{eq-eqb, ne-eqb, le-leb}
 use Rattle.window.specs.Pick.{pick}
 use Rattle.claim.specs.declared.Kind.{Kind, the-variants.{Ubx, Rtcm, Sentence}}
 use Rattle.claim.specs.declared.Verdict.the-variants.{Hand}
-use Rattle.look.specs.declared.Sight.the-variants.{Say}
 use Rattle.claim.specs.Sizes.{skip, size}
-use Rattle.look.specs.Within.{Says}
-use Rattle.seek.specs.OneSide.{OnOneSide, HandsFrame}
+use Rattle.seek.specs.OneSide.{OnOneSide}
 use Rattle.state.specs.declared.State.{State}
-use Rattle.state.specs.Words.{leftLen, width, moved, drain}
-use Rattle.state.specs.Ready.{Ready}
+use Rattle.state.specs.Words.{leftLen, moved, drain}
 use Rattle.taking.specs.declared.Side.{Side, the-variants.{Carry, Chunk}}
-use Rattle.taking.specs.declared.Place.{Place}
 use Rattle.taking.specs.Take.{taking}
-use Rattle.framer.specs.declared.Stepped.{Stepped}
-use Rattle.framer.specs.Step.{StepOut, out, frameAt, say, moveOf, stepFrom}
-use Rattle.framer.proofs.Account.{moves-in}
-use Rattle.framer.proofs.Turns.{says-step}
-use Rattle.framer.proofs.Slices.{frame-window}
+use Rattle.framer.specs.Step.{StepOut, out, frameAt, say}
 
 -- where the carry has bytes, the side is the carry
 pub in-carry : (s : State) (kind : Kind) → s .off ≤ s .live → (s .live ≡ s .off → ⊥) → OnOneSide (leftLen s) kind → skip kind + size kind ≤ leftLen s
@@ -37,7 +28,7 @@ some-size (Rtcm n false) = omega arith
 some-size (Sentence i) = omega arith
 
 module _ (s : State) (kind : Kind) (carry chunk : List ℕ) where
-  abbrev handed : Side → ℕ → ℕ → ℕ → StepOut
+  abbrev pub handed : Side → ℕ → ℕ → ℕ → StepOut
   handed side start off part =
       out (frameAt kind (s .used) (record { side = side; start = start; len = size kind }))
       (moved s (s .live) off part (s .used + (skip kind + size kind))) carry
@@ -60,24 +51,3 @@ module _ (s : State) (kind : Kind) (carry chunk : List ℕ) where
       let p : s .part + (skip kind - leftLen s) ≡ s .part = omega arith in
       let u : s .used + skip kind + size kind ≡ s .used + (skip kind + size kind) = omega arith in
       rw (ne-eqb _ _ n, le-leb _ _ l, o, p, u)
-
--- ---- where a frame lies on one side of the two slices that the code lends
-
-module _ (s : State) (carry chunk : List ℕ) (r : Ready s carry chunk) (kind : Kind)
-    (h : HandsFrame (s .mode) (s .max) (take (s .live - s .off) (drop (s .off) carry)) (take (length chunk - s .part) (drop (s .part) chunk)) kind) where
-  there : OnOneSide (leftLen s) kind × (moveOf s carry chunk ≡ Say (Hand kind))
-  there = frame-window s carry chunk (r .sane) kind h
-
-  says : Says (s .cap) (leftLen s) (width s) (Hand kind)
-  says = rw (there .1) at (moves-in chunk s carry (r .sane))
-
-  -- it can be handed out there
-  pub hand-ready : ((s .off ≤ s .live) × ((s .part ≤ s .chunk) × (s .used + width s ≤ 32768))) × ((skip kind + size kind ≤ width s) × OnOneSide (leftLen s) kind)
-  hand-ready = ((r .sane .offs, (r .sane .parts, r .counts)), (says .1, there .0))
-
-  -- and that is the step
-  pub hand-step : (o : Stepped) → ((carry chunk : List ℕ) → say s carry chunk (Hand kind) ≡ out (o .answer) (o .state) carry)
-      → (o ≡ stepFrom s carry chunk .result) × (carry ≡ stepFrom s carry chunk .carry)
-  hand-step o e =
-      let g = says-step carry chunk s (r .sane) (Hand kind) (there .1) ∙ e carry chunk in
-      (sym (ap (λ (x : StepOut). x .result) g), sym (ap (λ (x : StepOut). x .carry) g))

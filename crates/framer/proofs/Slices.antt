@@ -1,33 +1,23 @@
 -- The two slices that the code lends, `&carry[off..live]` and `&chunk[part..]`, are the window.
-use mathlib.Core.Path.{_≡_, sym, ap, _∙_}
+use mathlib.Core.Path.{sym, ap, _∙_}
 use mathlib.Core.List.{List, _++_}
 use mathlib.Core.Logic.{inl}
 use Prim.Native.Nat.{ℕ, _+_, _-_}
 use lib.ListN.{length, take, drop}
 use Rattle.window.proofs.Laws.{from}
-use Rattle.claim.specs.declared.Kind.{Kind}
-use Rattle.claim.specs.declared.Verdict.{Verdict, the-variants.{Hand}}
-use Rattle.look.specs.declared.Sight.the-variants.{Say}
+use Rattle.claim.specs.declared.Verdict.{Verdict}
 use Rattle.seek.specs.Passed.{Stops}
-use Rattle.seek.specs.OneSide.{Begins, OnOneSide, HandsFrame}
+use Rattle.seek.specs.OneSide.{Begins}
 use Rattle.state.specs.declared.State.{State}
 use Rattle.state.specs.Words.{leftLen, ahead, window}
 use Rattle.state.specs.Ready.{Sane}
 use Rattle.state.proofs.Window.{left-length, window-length}
 use Rattle.opening.proofs.Slices.{left-part}
-use Rattle.framer.specs.Step.{moveOf}
 
 pub stops-window : (s : State) (carry chunk : List ℕ) → Sane s carry chunk → (k : ℕ) (v : Verdict)
     → Stops (s .mode) (s .max) (s .cap) (length (take (s .live - s .off) (drop (s .off) carry))) (take (s .live - s .off) (drop (s .off) carry) ++ take (length chunk - s .part) (drop (s .part) chunk)) k v
     → Stops (s .mode) (s .max) (s .cap) (leftLen s) (window s carry chunk) k v
 stops-window s carry chunk ok k v st = rw (left-part carry (s .off) (s .live) (ok .offs), from chunk (s .part), left-length s carry chunk ok) at st
-
-pub frame-window : (s : State) (carry chunk : List ℕ) → Sane s carry chunk → (kind : Kind)
-    → HandsFrame (s .mode) (s .max) (take (s .live - s .off) (drop (s .off) carry)) (take (length chunk - s .part) (drop (s .part) chunk)) kind
-    → OnOneSide (leftLen s) kind × (moveOf s carry chunk ≡ Say (Hand kind))
-frame-window s carry chunk ok kind h =
-    let there = rw (left-part carry (s .off) (s .live) (ok .offs), from chunk (s .part), left-length s carry chunk ok) at h in
-    (there .0, there .1 (s .cap))
 
 -- and the window begins with the first of them
 pub begins-window : (s : State) (carry chunk : List ℕ) → Sane s carry chunk

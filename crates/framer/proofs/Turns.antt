@@ -43,7 +43,7 @@ module _ (carry chunk : List ℕ) where
         rw (u, window-drain s carry chunk ok k)
 
     -- what is passed in silence lies in the window, and the step goes on from there
-    passed-on : (k : ℕ) → Passed (s .mode) (s .max) (s .cap) (leftLen s) (window s carry chunk) k
+    pub passed-on : (k : ℕ) → Passed (s .mode) (s .max) (s .cap) (leftLen s) (window s carry chunk) k
         → (k ≤ width s) × (stepFrom s carry chunk ≡ stepFrom (drain k s) carry chunk)
     passed-on k start = (omega arith, ap (λ (x : State). stepFrom x carry chunk) (sym (drain-zero s)))
     passed-on n (turn k _ y p e q) =

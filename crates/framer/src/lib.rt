@@ -1,25 +1,19 @@
 // The framer's answers and its step: a state of numbers, with carry and chunk lent to each call. Rust: parser.rs, `Parser` and
 // the iterators.
 ghost use mathlib.Core.Path.{_≡_};
-ghost use mathlib.Core.List.{List};
-ghost use Prim.Native.Nat.{ℕ, _+_, _≤_};
-ghost use Rattle.claim.specs.declared.Verdict.the-variants.{Hand};
-ghost use Rattle.claim.specs.Sizes.{skip, size};
+ghost use Prim.Native.Nat.{_≤_};
 ghost use Rattle.look.specs.Within.{Says};
-ghost use Rattle.seek.specs.OneSide.{OnOneSide};
 ghost use Rattle.state.specs.Words.{leftLen, width, drain};
 ghost use Rattle.state.specs.Ready.{Ready};
-ghost use Rattle.framer.specs.Step.{out, frameAt, taleAt, say, stepFrom, step};
+ghost use Rattle.framer.specs.Step.{frameAt, taleAt, say, stepFrom, step};
 ghost use Rattle.framer.specs.Promises.{Steps};
 use claim::Kind;
 use claim::Tale;
 use claim::Verdict;
-use seek::Whole;
 use state::Leave;
 use state::Refusal;
 use state::State;
 use taking::Place;
-use taking::Side;
 
 // What a step answers; `at` is the position, `used` at the sync byte.
 pub enum Answer {
@@ -135,42 +129,8 @@ fn said(s: State, carry: &mut [u8], chunk: &[u8], skip: usize, v: Verdict) -> St
     }
 }
 
-// A frame all of which lies on one side is handed out where it lies.
-fn hand_out(s: State, kind: Kind) -> Stepped
-    requires { ⌜ (s .off ≤ s .live) × ((s .part ≤ s .chunk) × (s .used + width s ≤ 32768)) ⌝ }
-    requires { ⌜ (skip kind + size kind ≤ width s) × OnOneSide (leftLen s) kind ⌝ }
-    ensures { λ r. ⌜ ((carry chunk : List ℕ) → say s carry chunk (Hand kind) ≡ out (r .answer) (r .state) carry) ⌝ }
-{
-    let at = s.used;
-    let before = claim::skip(kind);
-    let len = claim::size(kind);
-    let used = at + (before + len);
-    if s.live == s.off {
-        let start = s.part + before;
-        let in_chunk = Place {
-            side: Side::Chunk,
-            start,
-            len,
-        };
-        let answer = frame_at(kind, at, in_chunk);
-        let part = start + len;
-        let state = State { used, part, ..s };
-        return Stepped { answer, state };
-    }
-    let start = s.off + before;
-    let in_carry = Place {
-        side: Side::Carry,
-        start,
-        len,
-    };
-    let answer = frame_at(kind, at, in_carry);
-    let off = start + len;
-    let state = State { off, used, ..s };
-    Stepped { answer, state }
-}
-
-// A step that looks for what is to be said, and says it.
-fn step_on(s: State, carry: &mut [u8], chunk: &[u8]) -> Stepped
+// A step that is not refused: it looks for what is to be said, and says it.
+fn step_well(s: State, carry: &mut [u8], chunk: &[u8]) -> Stepped
     requires { ⌜ Ready s (now carry) (now chunk) ⌝ }
     ensures { λ r. ⌜ r ≡ stepFrom s (now (carry .entry)) (now (chunk .entry)) .result ⌝ }
     ensures { λ _. ⌜ now (carry .exit) ≡ stepFrom s (now (carry .entry)) (now (chunk .entry)) .carry ⌝ }
@@ -182,41 +142,6 @@ fn step_on(s: State, carry: &mut [u8], chunk: &[u8]) -> Stepped
     let stop = seek::seek(mode, s.max, s.cap, &carry[off..live], &chunk[part..]);
     let verdict = stop.verdict;
     said(s, carry, chunk, stop.skip, verdict)
-}
-
-// A step that is not refused. In the midst of a frame whose head is in the carry, and at a frame all of which lies on one side,
-// nothing is to be looked for.
-fn step_well(s: State, carry: &mut [u8], chunk: &[u8]) -> Stepped
-    requires { ⌜ Ready s (now carry) (now chunk) ⌝ }
-    ensures { λ r. ⌜ r ≡ stepFrom s (now (carry .entry)) (now (chunk .entry)) .result ⌝ }
-    ensures { λ _. ⌜ now (carry .exit) ≡ stepFrom s (now (carry .entry)) (now (chunk .entry)) .carry ⌝ }
-{
-    let mode = s.mode;
-    let off = s.off;
-    let live = s.live;
-    let part = s.part;
-    let left = live - off;
-    if claim::UBX_HEADER_LEN <= left {
-        let w = left + (s.chunk - part);
-        if seek::is_short(mode, s.max, s.cap, &carry[off..live], w) {
-            return Stepped {
-                answer: Answer::NeedMore,
-                state: s,
-            };
-        }
-    }
-    let whole = seek::whole_frame(mode, s.max, &carry[off..live], &chunk[part..]);
-    match whole {
-        Whole::Unsure => step_on(s, carry, chunk),
-        Whole::Ubx { class, id, n } => {
-            let kind = Kind::Ubx { class, id, n };
-            hand_out(s, kind)
-        }
-        Whole::Rtcm { n } => {
-            let kind = Kind::Rtcm { n, parity: false };
-            hand_out(s, kind)
-        }
-    }
 }
 
 // The next answer of an open state. Refusals 2, 4 and 6.

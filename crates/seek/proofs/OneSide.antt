@@ -1,8 +1,8 @@
--- What one side of the window tells of its front, outcome by outcome.
+-- What one side of the window tells of its front, outcome by outcome, and what a head there claims.
 use mathlib.Core.Path.{_≡_, refl, sym, ap, _∙_}
 use mathlib.Core.Bool.{Bool, true, false, and-false, or-true}
 use mathlib.Core.List.{List, [], _∷_, _++_, append-nil}
-use mathlib.Core.Logic.{_⊎_, ⊎-elim, inl, inr}
+use mathlib.Core.Logic.{⊎-elim, inl, inr}
 use Prim.Native.Nat.{ℕ, _+_, _-_, _*_, _%_, _≤_, _<_}
 use native.Mathlib.Omega.{arith}
 use lib.ListN.{length, getD, take, drop, length-drop, length-append}
@@ -15,17 +15,17 @@ use Rattle.window.specs.Pick.{pick}
 use Rattle.window.specs.Sync.{hasParity, isSync}
 use Rattle.window.proofs.Laws.{from, joined-left}
 use Rattle.claim.specs.declared.Kind.{Kind, the-variants.{Ubx, Rtcm}}
-use Rattle.claim.specs.declared.Verdict.the-variants.{Wait, Hand}
+use Rattle.claim.specs.declared.Verdict.the-variants.{Hand}
 use Rattle.claim.specs.Sizes.{skip, around, size, back}
 use Rattle.claim.specs.Verdicts.{canHand, judgeSum, lacks}
 use Rattle.look.specs.declared.Why.the-variants.{NotPair, OverMax}
 use Rattle.look.specs.declared.Sight.{Sight, the-variants.{Pass, Say}}
 use Rattle.seek.specs.declared.Hint.{Hint}
-use Rattle.seek.specs.declared.Whole.{Whole, the-variants.{Unsure as Untold, Ubx as WholeUbx, Rtcm as WholeRtcm}}
+use Rattle.seek.specs.declared.Head.{Head, the-variants.{Unsure as Untold, Past as HeadPast, Ubx as HeadUbx, Rtcm as HeadRtcm}}
 use Rattle.look.specs.Rules.{claim, lookUbx, lookRtcm, atSync}
 use Rattle.look.specs.Moves.{judge, settled, stepMove}
 use Rattle.seek.specs.Passed.{moveAt}
-use Rattle.seek.specs.OneSide.{firstOf, Begins, Beside, Tells, HoldsFrame, HoldsWhole, HandsFrame, HandsWhole}
+use Rattle.seek.specs.OneSide.{firstOf, Begins, Beside, Tells, Claimed, Heads}
 use Rattle.look.proofs.Rules.{judged, judge-bare, ubx-other, ubx-over, ubx-claims, rtcm-claims, look-sync}
 
 -- ---- the first slice that has bytes
@@ -66,6 +66,11 @@ told-there mode max cap a b s e k h r f =
 
 -- ---- a window that begins with a side
 
+-- two lists read as one begin with the first that has bytes
+pub begins-both : (a b : List ℕ) → Begins (firstOf a b) (a ++ b) (length a) (length a + length b)
+begins-both [] b = record { rest = []; joined = sym (append-nil b); width = omega arith; side = inr refl }
+begins-both (x ∷ a) b = record { rest = b; joined = refl; width = length-append (x ∷ a) b; side = inl refl }
+
 module _ (s W : List ℕ) (u w : ℕ) (h : Begins s W u w) where
   pub begins-long : length s ≤ length W
   begins-long = rw (h .joined, length-append) (omega arith)
@@ -96,15 +101,15 @@ module _ (s W : List ℕ) (u w : ℕ) (h : Begins s W u w) where
   lacks-some cap d t l = let p : length W < d + t = rw (h .width) l in simp (lt-leb _ _ p)
 
   module _ (cap : ℕ) (kind : Kind) where
-    settles : skip kind + size kind ≤ length s → settled cap u W (claim kind) ≡ Say (judge kind W)
+    pub settles : skip kind + size kind ≤ length s → settled cap u W (claim kind) ≡ Say (judge kind W)
     unfolding pick
     settles l = rw (hands cap (skip kind) (size kind) l)
 
-    settles-fitting : skip kind + size kind ≤ w → size kind ≤ cap → settled cap u W (claim kind) ≡ Say (judge kind W)
+    pub settles-fitting : skip kind + size kind ≤ w → size kind ≤ cap → settled cap u W (claim kind) ≡ Say (judge kind W)
     unfolding pick
     settles-fitting l m = rw (hands-fitting cap (skip kind) (size kind) l m)
 
-    settles-not : w < skip kind + size kind → settled cap u W (claim kind) ≡ Say (lacks (ltb cap w) (back kind) (size kind))
+    pub settles-not : w < skip kind + size kind → settled cap u W (claim kind) ≡ Say (lacks (ltb cap w) (back kind) (size kind))
     unfolding pick
     settles-not l = rw (lacks-some cap (skip kind) (size kind) l, h .width)
 
@@ -143,50 +148,42 @@ module _ (s W : List ℕ) (u w : ℕ) (h : Begins s W u w) where
       pub side-over : max < n → settled cap u W (lookUbx max W) ≡ Pass OverMax
       side-over l = rw (ubx-over max W long-window pair-window (rw length-window at l))
 
-      claims : n ≤ max → lookUbx max W ≡ claim (Ubx (getD s 2 0) (getD s 3 0) n)
+      pub claims : n ≤ max → lookUbx max W ≡ claim (Ubx (getD s 2 0) (getD s 3 0) n)
       claims l =
           ubx-claims max W long-window pair-window (rw length-window at l)
           ∙ rw (← length-window, begins-at 2 (omega arith), begins-at 3 (omega arith))
 
-      pub side-lacks : n ≤ max → w < n + 8 → settled cap u W (lookUbx max W) ≡ Say (lacks (ltb cap w) 2 (n + 2))
-      side-lacks l m = rw (claims l) (settles-not cap (Ubx (getD s 2 0) (getD s 3 0) n) (omega arith))
+  -- a frame that a head claims
+  module _ (cap class id n : ℕ) where
+    pub frame-lacks : w < n + 8 → settled cap u W (claim (Ubx class id n)) ≡ Say (lacks (ltb cap w) 2 (n + 2))
+    frame-lacks m = settles-not cap (Ubx class id n) (omega arith)
 
-      pub side-waits : n ≤ max → w < n + 8 → w ≤ cap → settled cap u W (lookUbx max W) ≡ Say (Wait 0)
-      side-waits l m room = side-lacks l m ∙ rw (le-ltb cap w room)
+    pub sum-here : n + 8 ≤ length s → judge (Ubx class id n) W ≡ judgeSum (getD s (6 + n) 0) (getD s (6 + n + 1) 0) (sumOf (take (6 + n - 2) (drop 2 s))) class id n
+    sum-here m =
+        judged class id n (getD s (6 + n) 0) (getD s (6 + n + 1) 0) (sumOf (take (6 + n - 2) (drop 2 s))) W
+        (begins-at (6 + n) (omega arith)) (begins-at (6 + n + 1) (omega arith)) (ap sumOf (begins-part n (omega arith)))
 
-      pub side-judged : n ≤ max → n + 8 ≤ length s → settled cap u W (lookUbx max W)
-          ≡ Say (judgeSum (getD s (6 + n) 0) (getD s (6 + n + 1) 0) (sumOf (take (6 + n - 2) (drop 2 s))) (getD s 2 0) (getD s 3 0) n)
-      side-judged l m =
-          rw (claims l) (settles cap (Ubx (getD s 2 0) (getD s 3 0) n) (omega arith))
-          ∙ ap Say (judged (getD s 2 0) (getD s 3 0) n (getD s (6 + n) 0) (getD s (6 + n + 1) 0) (sumOf (take (6 + n - 2) (drop 2 s))) W
-          (begins-at (6 + n) (omega arith)) (begins-at (6 + n + 1) (omega arith)) (ap sumOf (begins-part n (omega arith))))
+    pub frame-judged : n + 8 ≤ length s → settled cap u W (claim (Ubx class id n))
+        ≡ Say (judgeSum (getD s (6 + n) 0) (getD s (6 + n + 1) 0) (sumOf (take (6 + n - 2) (drop 2 s))) class id n)
+    frame-judged m = settles cap (Ubx class id n) (omega arith) ∙ ap Say (sum-here m)
 
-      -- the frame is on both sides, and fits the carry
-      pub side-both : (b : List ℕ) → Beside s b W u → n ≤ max → n + 8 ≤ w → length s < n + 8 → n + 2 ≤ cap → settled cap u W (lookUbx max W)
-          ≡ Say (judgeSum (getD (s ++ b) (6 + n) 0) (getD (s ++ b) (6 + n + 1) 0) (sumOf (take (6 + n - 2) (drop 2 (s ++ b)))) (getD s 2 0) (getD s 3 0) n)
-      side-both b beside l m short room =
-          let all : s ++ b ≡ W = ⊎-elim (λ e. let z = ap length e in absurd (omega (arith, h .width))) (λ e. sym (e .0)) beside in
-          rw all
-          (rw (claims l) (settles-fitting cap (Ubx (getD s 2 0) (getD s 3 0) n) (omega arith) (omega arith))
-          ∙ ap Say (judged (getD s 2 0) (getD s 3 0) n (getD W (6 + n) 0) (getD W (6 + n + 1) 0) (sumOf (take (6 + n - 2) (drop 2 W))) W refl refl refl))
-
-      pub side-hands : n ≤ max → n + 8 ≤ length s
-          → getD s (6 + n) 0 ≡ sumOf (take (6 + n - 2) (drop 2 s)) .a → getD s (6 + n + 1) 0 ≡ sumOf (take (6 + n - 2) (drop 2 s)) .b
-          → settled cap u W (lookUbx max W) ≡ Say (Hand (Ubx (getD s 2 0) (getD s 3 0) n))
-      unfolding pick
-      side-hands l m a b = side-judged l m ∙ ap Say (rw (eq-eqb _ _ a, eq-eqb _ _ b))
+    -- it is on both sides, and fits the carry
+    pub frame-both : (b : List ℕ) → Beside s b W u → n + 8 ≤ w → length s < n + 8 → n + 2 ≤ cap → settled cap u W (claim (Ubx class id n))
+        ≡ Say (judgeSum (getD (s ++ b) (6 + n) 0) (getD (s ++ b) (6 + n + 1) 0) (sumOf (take (6 + n - 2) (drop 2 (s ++ b)))) class id n)
+    frame-both b beside m short room =
+        let all : s ++ b ≡ W = ⊎-elim (λ e. let z = ap length e in absurd (omega (arith, h .width))) (λ e. sym (e .0)) beside in
+        rw all
+        (settles-fitting cap (Ubx class id n) (omega arith) (omega arith)
+        ∙ ap Say (judged class id n (getD W (6 + n) 0) (getD W (6 + n + 1) 0) (sumOf (take (6 + n - 2) (drop 2 W))) W refl refl refl))
 
   -- ---- rule 3
 
   module _ (parity : Bool) (cap : ℕ) (long : 3 ≤ length s) (n : ℕ) (en : n ≡ (256 * getD s 1 0 + getD s 2 0) % 1024) where
-    claims-rtcm : lookRtcm parity W ≡ claim (Rtcm n parity)
+    pub claims-rtcm : lookRtcm parity W ≡ claim (Rtcm n parity)
     claims-rtcm = rtcm-claims parity W (getD s 1 0) (getD s 2 0) (begins-at 1 (omega arith)) (begins-at 2 (omega arith)) (omega (arith, begins-long)) ∙ rw (← en)
 
     pub side-lacks-rtcm : w < n + around parity → settled cap u W (lookRtcm parity W) ≡ Say (lacks (ltb cap w) 1 (n + around parity))
     side-lacks-rtcm l = rw claims-rtcm (settles-not cap (Rtcm n parity) (omega arith))
-
-    pub side-waits-rtcm : w < n + around parity → w ≤ cap → settled cap u W (lookRtcm parity W) ≡ Say (Wait 0)
-    side-waits-rtcm l room = side-lacks-rtcm l ∙ rw (le-ltb cap w room)
 
   -- a frame that is not read with parity
   module _ (cap : ℕ) (long : 3 ≤ length s) (n : ℕ) (en : n ≡ (256 * getD s 1 0 + getD s 2 0) % 1024) where
@@ -196,33 +193,15 @@ module _ (s W : List ℕ) (u w : ℕ) (h : Begins s W u w) where
     pub side-fits-rtcm : n + 3 ≤ w → n + 3 ≤ cap → settled cap u W (lookRtcm false W) ≡ Say (Hand (Rtcm n false))
     side-fits-rtcm l m = rw (claims-rtcm false cap long n en) (settles-fitting cap (Rtcm n false) (omega arith) (omega arith)) ∙ ap Say (judge-bare n W)
 
--- ---- a frame that one side has all of
+-- ---- what a head claims
 
--- what is told by a rule is told of the move, where that is the rule's
+-- what is claimed by a rule is claimed by the move, where that is the rule's
 module _ (f g : ℕ → ℕ → List ℕ → Sight) (s : List ℕ) (e : (cap u w : ℕ) (W : List ℕ) → Begins s W u w → g cap u W ≡ f cap u W) where
-  frame-by : (kind : Kind) → HoldsFrame f s kind → HoldsFrame g s kind
-  frame-by kind h = (h .0, λ cap u w W b. e cap u w W b ∙ h .1 cap u w W b)
+  claimed-by : (kind : Kind) → Claimed f s kind → Claimed g s kind
+  claimed-by kind h = λ cap u w W b. e cap u w W b ∙ h cap u w W b
 
-  pub whole-by : (r : Whole) → HoldsWhole f s r → HoldsWhole g s r
-  whole-by Untold h = tt
-  whole-by (WholeUbx class id n) h = frame-by (Ubx class id n) h
-  whole-by (WholeRtcm n) h = frame-by (Rtcm n false) h
-
--- two lists read as one begin with the first that has bytes
-begins-both : (a b : List ℕ) → Begins (firstOf a b) (a ++ b) (length a) (length a + length b)
-begins-both [] b = record { rest = []; joined = sym (append-nil b); width = omega arith; side = inr refl }
-begins-both (x ∷ a) b = record { rest = b; joined = refl; width = length-append (x ∷ a) b; side = inl refl }
-
-on-one-side : (a b : List ℕ) (n : ℕ) → n ≤ length (firstOf a b) → (length a ≡ 0) ⊎ (n ≤ length a)
-on-one-side [] b n h = inl refl
-on-one-side (x ∷ a) b n h = inr h
-
-module _ (mode : Mode) (max : ℕ) (a b s : List ℕ) (e : s ≡ firstOf a b) where
-  hands-frame : (kind : Kind) → HoldsFrame (λ cap u W. stepMove mode max cap u W) s kind → HandsFrame mode max a b kind
-  hands-frame kind h =
-      (on-one-side a b (skip kind + size kind) (rw e at (h .0)), λ cap. h .1 cap (length a) (length a + length b) (a ++ b) (rw e (begins-both a b)))
-
-  pub hands-whole : (r : Whole) → HoldsWhole (λ cap u W. stepMove mode max cap u W) s r → HandsWhole mode max a b r
-  hands-whole Untold h = tt
-  hands-whole (WholeUbx class id n) h = hands-frame (Ubx class id n) h
-  hands-whole (WholeRtcm n) h = hands-frame (Rtcm n false) h
+  pub heads-by : (r : Head) → Heads f s r → Heads g s r
+  heads-by Untold h = tt
+  heads-by (HeadPast y) h = λ cap u w W b. e cap u w W b ∙ h cap u w W b
+  heads-by (HeadUbx class id n) h = (h .0, h .1, claimed-by (Ubx class id n) (h .2))
+  heads-by (HeadRtcm n) h = (h .0, h .1, claimed-by (Rtcm n false) (h .2))
