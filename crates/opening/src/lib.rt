@@ -93,7 +93,7 @@ pub fn open(s: State, carry: &[u8], chunk: &[u8]) -> Opened
 }
 
 // A close that is not refused.
-fn close_well(s: State, carry: &mut [u8], chunk: &[u8]) -> Closed
+pub fn close_well(s: State, carry: &mut [u8], chunk: &[u8]) -> Closed
     requires { ⌜ Ready s (now carry) (now chunk) ⌝ }
     ensures { λ r. ⌜ r ≡ closeOn s (now (carry .entry)) (now (chunk .entry)) Granted .result ⌝ }
     ensures { λ _. ⌜ now (carry .exit) ≡ closeOn s (now (carry .entry)) (now (chunk .entry)) Granted .carry ⌝ }

@@ -29,9 +29,9 @@ pub extern "C" fn orgnevis_start(state: &mut [u64; 24], carry: &[u8], mode: u64,
     }
 }
 
-// Opens an idle state on a chunk. Answers 0, 2, 3 or 5.
-#[no_mangle]
-pub extern "C" fn orgnevis_open(state: &mut [u64; 24], carry: &[u8], chunk: &[u8]) -> u64
+// The whole of orgnevis_open. It is called in two places, since the compiler keeps apart only what is called twice: the quick way
+// then stays short.
+fn full_open(state: &mut [u64; 24], carry: &[u8], chunk: &[u8]) -> u64
     ensures { λ r. ⌜ r ≡ opens (now (state .entry)) (now (carry .entry)) (now (chunk .entry)) .number ⌝ }
     ensures { λ _. ⌜ now (state .exit) ≡ opens (now (state .entry)) (now (carry .entry)) (now (chunk .entry)) .words ⌝ }
 {
@@ -53,14 +53,28 @@ pub extern "C" fn orgnevis_open(state: &mut [u64; 24], carry: &[u8], chunk: &[u8
     }
 }
 
-// The next answer of an open state. Refusals 2, 4 and 6.
+// Opens an idle state on a chunk, at once where that goes. Answers 0, 2, 3 or 5.
 #[no_mangle]
-pub extern "C" fn orgnevis_step(
-    state: &mut [u64; 24],
-    carry: &mut [u8],
-    chunk: &[u8],
-    out: &mut [u64; 8],
-)
+pub extern "C" fn orgnevis_open(state: &mut [u64; 24], carry: &[u8], chunk: &[u8]) -> u64
+    ensures { λ r. ⌜ r ≡ opens (now (state .entry)) (now (carry .entry)) (now (chunk .entry)) .number ⌝ }
+    ensures { λ _. ⌜ now (state .exit) ≡ opens (now (state .entry)) (now (carry .entry)) (now (chunk .entry)) .words ⌝ }
+{
+    let read = words::read_plain(state, false);
+    match read {
+        Read::NoState => full_open(state, carry, chunk),
+        Read::Is(s) => {
+            if state::opens(s, carry.len(), chunk.len()) {
+                if quick_chunk::open_at_once(s, state, carry, chunk) {
+                    return 0;
+                }
+            }
+            full_open(state, carry, chunk)
+        }
+    }
+}
+
+// The whole of orgnevis_step, likewise.
+fn full_step(state: &mut [u64; 24], carry: &mut [u8], chunk: &[u8], out: &mut [u64; 8])
     ensures { λ _. ⌜ now (state .exit) ≡ steps (now (state .entry)) (now (carry .entry)) (now (chunk .entry)) .words ⌝ }
     ensures { λ _. ⌜ now (out .exit) ≡ steps (now (state .entry)) (now (carry .entry)) (now (chunk .entry)) .out ⌝ }
     ensures { λ _. ⌜ now (carry .exit) ≡ steps (now (state .entry)) (now (carry .entry)) (now (chunk .entry)) .carry ⌝ }
@@ -78,14 +92,36 @@ pub extern "C" fn orgnevis_step(
     }
 }
 
-// Closes an open state. Refusals 2, 4 and 6.
+// The next answer of an open state, at once where that goes. Refusals 2, 4 and 6.
 #[no_mangle]
-pub extern "C" fn orgnevis_close(
+pub extern "C" fn orgnevis_step(
     state: &mut [u64; 24],
     carry: &mut [u8],
     chunk: &[u8],
-    out: &mut [u64; 16],
+    out: &mut [u64; 8],
 )
+    ensures { λ _. ⌜ now (state .exit) ≡ steps (now (state .entry)) (now (carry .entry)) (now (chunk .entry)) .words ⌝ }
+    ensures { λ _. ⌜ now (out .exit) ≡ steps (now (state .entry)) (now (carry .entry)) (now (chunk .entry)) .out ⌝ }
+    ensures { λ _. ⌜ now (carry .exit) ≡ steps (now (state .entry)) (now (carry .entry)) (now (chunk .entry)) .carry ⌝ }
+{
+    let read = words::read_plain(state, true);
+    match read {
+        Read::NoState => full_step(state, carry, chunk, out),
+        Read::Is(s) => {
+            if state::is_usable(s, carry.len(), chunk.len()) {
+                if quick_step::step_at_once(s, state, carry, chunk, out) {
+                    return;
+                }
+                full_step(state, carry, chunk, out)
+            } else {
+                full_step(state, carry, chunk, out)
+            }
+        }
+    }
+}
+
+// The whole of orgnevis_close, likewise.
+fn full_close(state: &mut [u64; 24], carry: &mut [u8], chunk: &[u8], out: &mut [u64; 16])
     ensures { λ _. ⌜ now (state .exit) ≡ closes (now (state .entry)) (now (carry .entry)) (now (chunk .entry)) .words ⌝ }
     ensures { λ _. ⌜ now (out .exit) ≡ closes (now (state .entry)) (now (carry .entry)) (now (chunk .entry)) .out ⌝ }
     ensures { λ _. ⌜ now (carry .exit) ≡ closes (now (state .entry)) (now (carry .entry)) (now (chunk .entry)) .carry ⌝ }
@@ -114,6 +150,31 @@ pub extern "C" fn orgnevis_close(
                         words::word(closed.lost),
                     )
                 }
+            }
+        }
+    }
+}
+
+// Closes an open state, at once where that goes. Refusals 2, 4 and 6.
+#[no_mangle]
+pub extern "C" fn orgnevis_close(
+    state: &mut [u64; 24],
+    carry: &mut [u8],
+    chunk: &[u8],
+    out: &mut [u64; 16],
+)
+    ensures { λ _. ⌜ now (state .exit) ≡ closes (now (state .entry)) (now (carry .entry)) (now (chunk .entry)) .words ⌝ }
+    ensures { λ _. ⌜ now (out .exit) ≡ closes (now (state .entry)) (now (carry .entry)) (now (chunk .entry)) .out ⌝ }
+    ensures { λ _. ⌜ now (carry .exit) ≡ closes (now (state .entry)) (now (carry .entry)) (now (chunk .entry)) .carry ⌝ }
+{
+    let read = words::read_plain(state, true);
+    match read {
+        Read::NoState => full_close(state, carry, chunk, out),
+        Read::Is(open) => {
+            if state::is_usable(open, carry.len(), chunk.len()) {
+                quick_chunk::close_at_once(open, state, carry, chunk, out)
+            } else {
+                full_close(state, carry, chunk, out)
             }
         }
     }

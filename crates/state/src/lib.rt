@@ -111,7 +111,7 @@ fn is_bad(s: State, carry_len: usize) -> bool
 
 // Whether a state can be opened at once: where it can, no refusal comes. Tried first, so that the tests of the table, which
 // also find out the number, are made only where one is to be said.
-fn opens(s: State, carry_len: usize, chunk_len: usize) -> bool
+pub fn opens(s: State, carry_len: usize, chunk_len: usize) -> bool
     ensures { λ r. ⌜ (r ≡ true → mayOpen s «carry_len» «chunk_len» ≡ Granted) ⌝ }
 {
     if s.open {
@@ -161,7 +161,7 @@ pub fn may_open(s: State, carry_len: usize, chunk_len: usize) -> Leave
 }
 
 // Whether a state can be stepped or closed at once, likewise.
-fn is_usable(s: State, carry_len: usize, chunk_len: usize) -> bool
+pub fn is_usable(s: State, carry_len: usize, chunk_len: usize) -> bool
     ensures { λ r. ⌜ (r ≡ true → mayUse s «carry_len» «chunk_len» ≡ Granted) ⌝ }
 {
     if !s.open {

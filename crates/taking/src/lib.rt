@@ -31,7 +31,7 @@ pub struct Taken {
 }
 
 // t bytes taken on both sides, where the chunk's share is less than the room behind the live bytes: that is filled.
-fn take_grow(s: State, carry: &mut [u8], chunk: &[u8], t: usize) -> Taken
+pub fn take_grow(s: State, carry: &mut [u8], chunk: &[u8], t: usize) -> Taken
     requires { ⌜ Ready s (now carry) (now chunk) ⌝ }
     requires { ⌜ Room s t ⌝ }
     ensures { λ r. ⌜ r ≡ takeGrow s (now (carry .entry)) (now (chunk .entry)) t .result ⌝ }

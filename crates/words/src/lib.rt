@@ -2,7 +2,10 @@
 ghost use mathlib.Core.Path.{_≡_};
 ghost use Rattle.state.specs.Refusals.{leaveNo, refusalNo};
 ghost use Rattle.framer.specs.Answers.{sideNo};
+ghost use Rattle.framer.specs.Step.{frameAt};
 ghost use Rattle.words.specs.Words.{modeNo, openNo, readMode, maxOrOpenTooBig, readState, withState, openedWords, steppedWords, closedWords, frameWords, plainWords, wrongWords, answerWords, reportWords};
+ghost use Rattle.words.specs.Plainly.{ModeReadsPlainly, ReadsPlainly};
+use claim::Kind;
 use framer::Answer;
 use state::Leave;
 use state::Refusal;
@@ -60,6 +63,25 @@ pub fn read_mode(n: u64) -> ModeRead
     if n == 19 {
         let mode = Mode::Three(true);
         return ModeRead::Known(mode);
+    }
+    ModeRead::NoMode
+}
+
+// The mode of a number, where it reads no parity; of another number it is not told.
+fn plain_mode(n: u64) -> ModeRead
+    ensures { λ r. ⌜ ModeReadsPlainly n r ⌝ }
+{
+    if n == 1 {
+        let plain = Mode::One(false);
+        return ModeRead::Known(plain);
+    }
+    if n == 2 {
+        let plain = Mode::Two(false);
+        return ModeRead::Known(plain);
+    }
+    if n == 3 {
+        let plain = Mode::Three(false);
+        return ModeRead::Known(plain);
     }
     ModeRead::NoMode
 }
@@ -131,6 +153,36 @@ pub fn read_state(words: &[u64; 24]) -> Read
                 off: words[4] as usize,
                 used: words[5] as usize,
                 open: words[6] == 1,
+                chunk: words[7] as usize,
+                part: words[8] as usize,
+            };
+            Read::Is(state)
+        }
+    }
+}
+
+// The state that words say, where it is open or idle as asked and its mode reads no parity; another is not told.
+pub fn read_plain(words: &[u64; 24], open: bool) -> Read
+    ensures { λ r. ⌜ ReadsPlainly (now (words .entry)) r ⌝ }
+{
+    if words[1] > 65535 {
+        return Read::NoState;
+    }
+    if words[6] != open_no(open) {
+        return Read::NoState;
+    }
+    let read = plain_mode(words[0]);
+    match read {
+        ModeRead::NoMode => Read::NoState,
+        ModeRead::Known(mode) => {
+            let state = State {
+                mode,
+                max: words[1] as u16,
+                cap: words[2] as usize,
+                live: words[3] as usize,
+                off: words[4] as usize,
+                used: words[5] as usize,
+                open,
                 chunk: words[7] as usize,
                 part: words[8] as usize,
             };
@@ -214,7 +266,15 @@ fn write_frame(out: &mut [u64; 8], number: u64, at: u64, class: u64, id: u64, pl
 }
 
 // A wrong sum: its position, the two sums, and class, id and length of the head.
-fn write_wrong(out: &mut [u64; 8], at: usize, class: u8, id: u8, n: usize, expect: u16, got: u16)
+pub fn write_wrong(
+    out: &mut [u64; 8],
+    at: usize,
+    class: u8,
+    id: u8,
+    n: usize,
+    expect: u16,
+    got: u16,
+)
     ensures { λ _. ⌜ now (out .exit) ≡ wrongWords at class id n expect got ⌝ }
 {
     *out = [
@@ -245,6 +305,24 @@ pub fn word(x: usize) -> u64
     ensures { λ r. ⌜ r ≡ x ⌝ }
 {
     x as u64
+}
+
+// A frame that is handed out: its kind, position and place.
+pub fn write_hand(out: &mut [u64; 8], kind: Kind, at: usize, place: Place)
+    ensures { λ _. ⌜ now (out .exit) ≡ answerWords (frameAt kind at place) ⌝ }
+{
+    match kind {
+        Kind::Ubx { class, id, n: _ } => write_frame(
+            out,
+            1,
+            word(at),
+            word8(class),
+            word8(id),
+            place,
+        ),
+        Kind::Rtcm { n: _, parity: _ } => write_frame(out, 2, word(at), 0, 0, place),
+        Kind::Sentence { i: _ } => write_frame(out, 3, word(at), 0, 0, place),
+    }
 }
 
 // An answer's eight words.

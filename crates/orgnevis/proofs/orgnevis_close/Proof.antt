@@ -1,108 +1,76 @@
--- `orgnevis::orgnevis_close` meets its contract.
+-- `orgnevis::orgnevis_close` meets its contract: done at once or in full, the answer is the same.
 use mathlib.Core.Path.{sym, ap, _∙_}
-use Rattle.opening.specs.declared.Closed.{Closed}
-use Rattle.opening.specs.Operations.{closing}
-use Rattle.opening.proofs.Determined.{closes-is}
+use Rattle.opening.specs.Operations.{CloseOut}
+use Rattle.words.specs.declared.Read.the-variants.{Is}
+use Rattle.words.specs.Plainly.{ReadsPlainly}
+use Rattle.words.proofs.Kept.{close-keeps, closed-words}
 use Rattle.orgnevis.specs.Calls.{closes}
-use Rattle.words.proofs.Kept.{close-keeps, close-refused, same, closed-words}
+use Rattle.quick_chunk.proofs.AtOnce.{closes-well}
 use borrow.Author.Needs.{needs}
 use Rattle.orgnevis.proofs.orgnevis_close.Statement.{statement}
 use Rattle.orgnevis.proofs.orgnevis_close.Tie as tie
 
-read-state-requires : tie.Need-read-state-requires
-read-state-requires c κs = search needs
+read-plain-requires : tie.Need-read-plain-requires
+read-plain-requires c κs = search needs
 
 enum-told : tie.Need-enum-told
 enum-told c = search needs
 
-write-report-requires : tie.Need-write-report-requires
-write-report-requires c κs = search needs
+full-close-requires : tie.Need-full-close-requires
+full-close-requires c κs = search needs
 
 enum-known-read : tie.Need-enum-known-read
 enum-known-read c = search needs
 
-close-requires : tie.Need-close-requires
-close-requires c κs = search needs
+is-usable-requires : tie.Need-is-usable-requires
+is-usable-requires c κs = search needs
 
-enum-known-leave : tie.Need-enum-known-leave
-enum-known-leave c = search needs
+close-at-once-requires : tie.Need-close-at-once-requires
+close-at-once-requires c κs = c .before .before .before .before .is-usable .ensures (c .before .before .before .if1 .taken)
 
-refusal-no-requires : tie.Need-refusal-no-requires
-refusal-no-requires c κs = search needs
-
-write-report-requires-2 : tie.Need-write-report-requires-2
-write-report-requires-2 c κs = search needs
-
-enum-told-2 : tie.Need-enum-told-2
-enum-told-2 c = search needs
-
-write-closed-requires : tie.Need-write-closed-requires
-write-closed-requires c κs = search needs
-
-word-requires : tie.Need-word-requires
-word-requires c κs = search needs
-
-word-requires-2 : tie.Need-word-requires-2
-word-requires-2 c κs = search needs
-
-word-requires-3 : tie.Need-word-requires-3
-word-requires-3 c κs = search needs
-
-write-report-requires-3 : tie.Need-write-report-requires-3
-write-report-requires-3 c κs = search needs
-
-returns : tie.Need-returns
-unfolding closes
-returns c = let e = sym (c .before .before .before .before .read-state .ensures) ∙ c .before .before .enum-told .given .1 in (rw e, (c .write-report .ensures ∙ rw e, rw e))
+full-close-requires-2 : tie.Need-full-close-requires-2
+full-close-requires-2 c κs = search needs
 
 same-length : tie.Need-same-length
 same-length c = search needs
 
-returns-2 : tie.Need-returns-2
-unfolding closes
-returns-2 c = let x = c .before .before .before .before .before .before .before .before .before .before .before .before .before .before .before .before .before .args in
-    let s = c .before .before .before .before .before .before .before .before .before .before .before .read .given .0 .0 in
-    let e = sym (c .before .before .before .before .before .before .before .before .before .before .before .before .before .read-state .ensures) ∙ c .before .before .before .before .before .before .before .before .before .before .before .read .given .1 in
-    let r = closes-is (closing s (x .carry .now) (x .chunk .now)) (c .before .before .before .before .before .before .before .before .close .result) _ (c .before .before .before .before .before .before .before .before .close .ensures) in
-    let d = sym (ap (λ (o : Closed). o .leave) (r .0)) ∙ c .before .before .before .before .leave .given .1 in
-    let k = close-refused s (x .carry .now) (x .chunk .now) _ d in
-    (rw (e, k) (sym (same (x .state .now) s e)), (c .write-report2 .ensures ∙ rw (e, k, c .before .refusal-no .ensures), r .1 ∙ rw e))
+returns : tie.Need-returns
+returns c = search needs
 
 same-length-2 : tie.Need-same-length-2
 same-length-2 c = search needs
 
-returns-3 : tie.Need-returns-3
+returns-2 : tie.Need-returns-2
 unfolding closes
-returns-3 c = let x = c .before .before .before .before .before .before .before .before .before .before .before .before .before .before .before .before .before .before .before .before .args in
-    let s = c .before .before .before .before .before .before .before .before .before .before .before .before .before .before .read .given .0 .0 in
-    let e = sym (c .before .before .before .before .before .before .before .before .before .before .before .before .before .before .before .before .read-state .ensures) ∙ c .before .before .before .before .before .before .before .before .before .before .before .before .before .before .read .given .1 in
-    let r = closes-is (closing s (x .carry .now) (x .chunk .now)) (c .before .before .before .before .before .before .before .before .before .before .before .close .result) _ (c .before .before .before .before .before .before .before .before .before .before .before .close .ensures) in
-    let g = sym (ap (λ (o : Closed). o .leave) (r .0)) ∙ c .before .before .before .before .before .before .before .enum-told2 .given .1 in
-    let k = close-keeps s (x .carry .now) (x .chunk .now) g in (
-      c .before .before .before .before .before .write-closed .ensures ∙ rw (e, k, r .0) (sym (closed-words (x .state .now) s e _)),
-      (c .write-report3 .ensures ∙ rw (e, c .before .before .before .word .ensures, c .before .before .word2 .ensures, c .before .word3 .ensures, r .0, g), r .1 ∙ rw e),
-    )
+returns-2 c = let x = c .before .before .before .before .before .before .before .before .before .before .before .before .before .before .before .args in
+    let s = c .before .before .before .before .before .before .before .before .before .read .given .0 .0 in
+    let p : ReadsPlainly (x .state .now) (Is s) = rw (c .before .before .before .before .before .before .before .before .before .read .given .1) at (c .before .before .before .before .before .before .before .before .before .before .before .read-plain .ensures) in
+    let e = p .0 in
+    let g = ap (λ (o : CloseOut). o .result .leave) (closes-well s (x .carry .now) (x .chunk .now) (c .before .before .before .before .before .before .before .is-usable .ensures (c .before .before .before .before .before .before .if1 .taken))) in
+    let k = close-keeps s (x .carry .now) (x .chunk .now) g in
+    let r = c .before .before .close-at-once .ensures in
+    (r .0 ∙ rw (e, k) (sym (closed-words (x .state .now) s e _)), (r .1 .0 ∙ rw e, r .1 .1 ∙ rw e))
+
+same-length-3 : tie.Need-same-length-3
+same-length-3 c = search needs
+
+returns-3 : tie.Need-returns-3
+returns-3 c = search needs
 
 pub orgnevis-close-spec : {M : Type 1} → statement M
 orgnevis-close-spec =
     tie.close
     (tie.spec
-    read-state-requires
+    read-plain-requires
     enum-told
-    write-report-requires
+    full-close-requires
     enum-known-read
-    close-requires
-    enum-known-leave
-    refusal-no-requires
-    write-report-requires-2
-    enum-told-2
-    write-closed-requires
-    word-requires
-    word-requires-2
-    word-requires-3
-    write-report-requires-3
-    returns
+    is-usable-requires
+    close-at-once-requires
+    full-close-requires-2
     same-length
-    returns-2
+    returns
     same-length-2
+    returns-2
+    same-length-3
     returns-3)
