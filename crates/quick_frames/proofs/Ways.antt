@@ -6,7 +6,7 @@ use mathlib.Core.List.{List, [], _∷_, _++_}
 use Prim.Native.Nat.{ℕ, _+_, _-_, _≤_, _<_}
 use native.Mathlib.Omega.{arith}
 use lib.ListN.{length, getD, take, drop}
-use borrow.Author.Tests.{eq-eqb, ne-eqb, le-leb, le-ltb}
+use borrow.Author.Tests.{eq-eqb, ne-eqb, le-ltb}
 use Rattle.sum.specs.declared.Sums.{Sums}
 use Rattle.sum.specs.Sum.{sumOf, pairOf}
 use Rattle.window.specs.Pick.{pick}
@@ -16,13 +16,13 @@ use Rattle.claim.specs.declared.Kind.{Kind, the-variants.{Ubx}}
 use Rattle.claim.specs.declared.Tale.the-variants.{WrongSum}
 use Rattle.claim.specs.declared.Verdict.{Verdict, the-variants.{Wait, Tell, Hand}}
 use Rattle.claim.specs.Sizes.{skip, size}
-use Rattle.claim.specs.Verdicts.{canHand, judgeSum}
+use Rattle.claim.specs.Verdicts.{judgeSum}
 use Rattle.look.specs.declared.Sight.the-variants.{Say}
 use Rattle.look.specs.Rules.{claim}
 use Rattle.look.specs.Moves.{judge, settled}
 use Rattle.look.proofs.Rules.{judged}
 use Rattle.seek.specs.OneSide.{firstOf, Begins, OnOneSide}
-use Rattle.seek.proofs.OneSide.{begins-both, begins-at, begins-long, sum-here, settles-not, settles-fitting}
+use Rattle.seek.proofs.OneSide.{begins-both, begins-at, begins-long, frame-judged, settles, settles-not, settles-fitting}
 use Rattle.state.specs.declared.State.{State}
 use Rattle.state.specs.Words.{left, leftLen, ahead, window, width}
 use Rattle.state.specs.Ready.{Ready}
@@ -49,17 +49,18 @@ module _ (s : State) (carry chunk : List ℕ) (r : Ready s carry chunk) where
   pub slices : slice₁ ++ slice₂ ≡ window s carry chunk
   slices = rw (left-part carry (s .off) (s .live) (r .sane .offs), from chunk (s .part))
 
+  first-is : (f : List ℕ) → f ≡ firstOf slice₁ slice₂ → f ≡ firstOf (left s carry) (ahead s chunk)
+  first-is f e = rw (left-part carry (s .off) (s .live) (r .sane .offs), from chunk (s .part)) at e
+
+  pub begins-first : Begins (firstOf (left s carry) (ahead s chunk)) (window s carry chunk) (leftLen s) (width s)
+  begins-first = rw (left-length s carry chunk (r .sane), ahead-length s carry chunk (r .sane)) at (begins-both (left s carry) (ahead s chunk))
+
   pub first-begins : (f : List ℕ) → f ≡ firstOf slice₁ slice₂ → Begins f (window s carry chunk) (leftLen s) (width s)
-  first-begins f e =
-      let h = begins-both (left s carry) (ahead s chunk) in
-      let g : f ≡ firstOf (left s carry) (ahead s chunk) = rw (left-part carry (s .off) (s .live) (r .sane .offs), from chunk (s .part)) at e in
-      rw g (rw (left-length s carry chunk (r .sane), ahead-length s carry chunk (r .sane)) at h)
+  first-begins f e = rw (first-is f e) begins-first
 
   -- and that slice has all that is left of the carry
   pub first-short : (f : List ℕ) → f ≡ firstOf slice₁ slice₂ → leftLen s ≤ length f
-  first-short f e =
-      let g : f ≡ firstOf (left s carry) (ahead s chunk) = rw (left-part carry (s .off) (s .live) (r .sane .offs), from chunk (s .part)) at e in
-      rw (g, ← left-length s carry chunk (r .sane)) (go (left s carry))
+  first-short f e = rw (first-is f e, ← left-length s carry chunk (r .sane)) (go (left s carry))
     where
       go : (a : List ℕ) → length a ≤ length (firstOf a (ahead s chunk))
       go [] = omega arith
@@ -67,9 +68,7 @@ module _ (s : State) (carry chunk : List ℕ) (r : Ready s carry chunk) where
 
   -- where it has no bytes there are none; where it has, its first is the window's
   pub first-none : (f : List ℕ) → f ≡ firstOf slice₁ slice₂ → length f ≡ 0 → width s ≡ 0
-  first-none f e z =
-      let g : f ≡ firstOf (left s carry) (ahead s chunk) = rw (left-part carry (s .off) (s .live) (r .sane .offs), from chunk (s .part)) at e in
-      rw (← left-length s carry chunk (r .sane), ← ahead-length s carry chunk (r .sane)) (go (left s carry) (rw g at z))
+  first-none f e z = rw (← left-length s carry chunk (r .sane), ← ahead-length s carry chunk (r .sane)) (go (left s carry) (rw (first-is f e) at z))
     where
       go : (a : List ℕ) → length (firstOf a (ahead s chunk)) ≡ 0 → length a + length (ahead s chunk) ≡ 0
       go [] h = omega (arith, h)
@@ -83,27 +82,23 @@ module _ (s : State) (carry chunk : List ℕ) (r : Ready s carry chunk) where
       let w = window-length s carry chunk (r .sane) in
       ⊎-elim (λ z. absurd (some (omega arith))) (λ h. rw (begins-at f (window s carry chunk) (leftLen s) (width s) b 0 (some-bytes f some)) h) front
 
-  first-side : (f : List ℕ) → f ≡ firstOf (left s carry) (ahead s chunk) → (n : ℕ) → n ≤ length f → (length (left s carry) ≡ 0) ⊎ (n ≤ length (left s carry))
-  first-side f e n l = go (left s carry) (rw e at l)
+  -- what that slice has all of lies on one side
+  pub on-first : (f : List ℕ) → f ≡ firstOf slice₁ slice₂ → (kind : Kind) → skip kind + size kind ≤ length f → OnOneSide (leftLen s) kind
+  on-first f e kind l = rw (left-length s carry chunk (r .sane)) at (go (left s carry) (rw (first-is f e) at l))
     where
-      go : (a : List ℕ) → n ≤ length (firstOf a (ahead s chunk)) → (length a ≡ 0) ⊎ (n ≤ length a)
+      go : (a : List ℕ) → skip kind + size kind ≤ length (firstOf a (ahead s chunk)) → (length a ≡ 0) ⊎ (skip kind + size kind ≤ length a)
       go [] h = inl refl
       go (x ∷ a) h = inr h
 
-  -- what that slice has all of lies on one side
-  pub on-first : (f : List ℕ) → f ≡ firstOf slice₁ slice₂ → (kind : Kind) → skip kind + size kind ≤ length f → OnOneSide (leftLen s) kind
-  on-first f e kind l =
-      let g : f ≡ firstOf (left s carry) (ahead s chunk) = rw (left-part carry (s .off) (s .live) (r .sane .offs), from chunk (s .part)) at e in
-      rw (left-length s carry chunk (r .sane)) at (first-side f g (skip kind + size kind) l)
+  -- and the other way round
+  in-first : (kind : Kind) → skip kind + size kind ≤ width s → OnOneSide (leftLen s) kind → skip kind + size kind ≤ length (firstOf (left s carry) (ahead s chunk))
+  in-first kind l side = go (left s carry) (left-length s carry chunk (r .sane))
+    where
+      go : (a : List ℕ) → length a ≡ leftLen s → skip kind + size kind ≤ length (firstOf a (ahead s chunk))
+      go [] e = rw (ahead-length s carry chunk (r .sane)) (omega arith)
+      go (x ∷ a) e = ⊎-elim (λ z. absurd (omega arith)) (λ h. omega arith) side
 
 -- ---- what is said of a frame that is claimed
-
-hands-here : (cap u w d t : ℕ) → d + t ≤ w → (u ≡ 0) ⊎ (d + t ≤ u) → canHand cap u w d t ≡ true
-hands-here cap u w d t p side =
-    ⊎-elim
-    (λ e. let q : u - d ≤ 0 = omega arith in simp (le-leb _ _ p, le-ltb _ _ q))
-    (λ e. let q : t ≤ u - d = omega arith in simp (le-leb _ _ p, le-ltb _ _ q, and-false))
-    side
 
 module _ (s : State) (carry chunk : List ℕ) (r : Ready s carry chunk) (kind : Kind)
     (m : moveOf s carry chunk ≡ settled (s .cap) (leftLen s) (window s carry chunk) (claim kind)) where
@@ -118,10 +113,8 @@ module _ (s : State) (carry chunk : List ℕ) (r : Ready s carry chunk) (kind : 
 
   -- it lies on one side
   pub judges-here : skip kind + size kind ≤ width s → OnOneSide (leftLen s) kind → stepFrom s carry chunk ≡ say s carry chunk (judge kind (window s carry chunk))
-  unfolding pick
   judges-here l side =
-      let p : skip kind + size kind ≤ length (window s carry chunk) = rw (window-length s carry chunk (r .sane)) l in
-      says (judge kind (window s carry chunk)) (rw (hands-here (s .cap) (leftLen s) (length (window s carry chunk)) (skip kind) (size kind) p side))
+      says (judge kind (window s carry chunk)) (settles _ _ _ _ (begins-first s carry chunk r) (s .cap) kind (in-first s carry chunk r kind l side))
 
   -- its body fits the carry
   pub judges-fitting : skip kind + size kind ≤ width s → size kind ≤ s .cap → stepFrom s carry chunk ≡ say s carry chunk (judge kind (window s carry chunk))
@@ -138,10 +131,21 @@ module _ (x y : ℕ) (got : Sums) (class id n : ℕ) where
   unfolding pick
   sum-wrong = ⊎-elim (λ ne. rw (ne-eqb _ _ ne)) (λ ne. rw (ne-eqb _ _ ne, and-false))
 
-  -- the pairs of a slice that the window begins with, and of the window itself
-  pub judged-first : (f W : List ℕ) (u w : ℕ) → Begins f W u w → n + 8 ≤ length f
-      → x ≡ getD f (6 + n) 0 → y ≡ getD f (6 + n + 1) 0 → got ≡ sumOf (take (6 + n - 2) (drop 2 f)) → judge (Ubx class id n) W ≡ judgeSum x y got class id n
-  judged-first f W u w h l ex ey eg = sum-here f W u w h 0 class id n l ∙ rw (ex, ey, eg)
+module _ (s : State) (carry chunk : List ℕ) (r : Ready s carry chunk) (class id n : ℕ)
+    (m : moveOf s carry chunk ≡ settled (s .cap) (leftLen s) (window s carry chunk) (claim (Ubx class id n))) where
+  -- on one side, by the bytes of the slice that has all of the frame
+  pub decides-here : (f : List ℕ) → f ≡ firstOf (slice₁ s carry chunk r) (slice₂ s carry chunk r) → n + 8 ≤ length f → (got : Sums) → got ≡ sumOf (take (6 + n - 2) (drop 2 f))
+      → stepFrom s carry chunk ≡ say s carry chunk (judgeSum (getD f (6 + n) 0) (getD f (6 + n + 1) 0) got class id n)
+  decides-here f e l got eg =
+      says s carry chunk r (Ubx class id n) m _ (frame-judged f (window s carry chunk) (leftLen s) (width s) (first-begins s carry chunk r f e) (s .cap) class id n l)
+      ∙ rw eg
 
-  pub judged-all : (W : List ℕ) → x ≡ getD W (6 + n) 0 → y ≡ getD W (6 + n + 1) 0 → got ≡ sumOf (take (6 + n - 2) (drop 2 W)) → judge (Ubx class id n) W ≡ judgeSum x y got class id n
-  judged-all W ex ey eg = judged class id n x y got W ex ey eg
+  -- on both sides, by those of the two slices read as one
+  pub decides-across : (x y : ℕ) (got : Sums) → n + 8 ≤ width s → n + 2 ≤ s .cap
+      → x ≡ getD (slice₁ s carry chunk r ++ slice₂ s carry chunk r) (6 + n) 0 → y ≡ getD (slice₁ s carry chunk r ++ slice₂ s carry chunk r) (6 + n + 1) 0
+      → got ≡ sumOf (take (6 + n - 2) (drop 2 (slice₁ s carry chunk r ++ slice₂ s carry chunk r)))
+      → stepFrom s carry chunk ≡ say s carry chunk (judgeSum x y got class id n)
+  decides-across x y got l room ex ey eg =
+      let all = slices s carry chunk r in
+      judges-fitting s carry chunk r (Ubx class id n) m (omega arith) (omega arith)
+      ∙ ap (say s carry chunk) (judged class id n x y got (window s carry chunk) (rw all at ex) (rw all at ey) (rw all at eg))

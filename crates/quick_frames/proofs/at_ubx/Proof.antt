@@ -6,10 +6,9 @@ use native.Mathlib.Omega.{arith}
 use lib.ListN.{getD}
 use borrow.Author.Tests.{eqb-true, eqb-false}
 use Rattle.claim.specs.declared.Kind.the-variants.{Ubx}
-use Rattle.state.specs.Words.{window}
 use Rattle.framer.specs.Step.{say}
 use Rattle.quick_words.proofs.Written.{leaves-by}
-use Rattle.quick_frames.proofs.Ways.{first-begins, first-short, on-first, waits, judges-here, sum-right, sum-wrong, judged-first}
+use Rattle.quick_frames.proofs.Ways.{first-short, on-first, waits, decides-here, sum-right, sum-wrong}
 use borrow.Author.Needs.{needs}
 use Rattle.quick_frames.proofs.at_ubx.Statement.{statement}
 use Rattle.quick_frames.proofs.at_ubx.Tie as tie
@@ -128,14 +127,9 @@ returns-4 c = let start = c .before .before .before .before .before .before .bef
     let first = c .before .before .before .before .before .before .before .before .before .before .before .before .before .first-of in let f = first .result .now in
     let new = c .before .before .before .before .before .before .before .before .before .before .before .new .ensures in
     let sum = c .before .before .before .before .before .before .before .before .before .update in
-    let side = on-first (x .s) (x .carry .now) (x .chunk .now) r _ (first .ensures) (Ubx (x .class) (x .id) (x .n)) (omega arith) in
-    let begins = first-begins (x .s) (x .carry .now) (x .chunk .now) r _ (first .ensures) in
     leaves-by _ _ _ _ _ _
-    (judges-here (x .s) (x .carry .now) (x .chunk .now) r (Ubx (x .class) (x .id) (x .n)) (h .1 .0) (omega arith) side
-    ∙ ap (say (x .s) (x .carry .now) (x .chunk .now))
-    (judged-first (getD f (6 + x .n) 0) (getD f (6 + x .n + 1) 0) (sum .result) (x .class) (x .id) (x .n) f (window (x .s) (x .carry .now) (x .chunk .now)) _ _
-    begins (omega arith) refl refl (rw new at (sum .ensures))
-    ∙ sum-right (getD f (6 + x .n) 0) (getD f (6 + x .n + 1) 0) (sum .result) (x .class) (x .id) (x .n) (c .before .before .before .before .before .if4 .taken) (eqb-true _ _ (c .before .before .before .if5 .taken))))
+    (decides-here (x .s) (x .carry .now) (x .chunk .now) r (x .class) (x .id) (x .n) (h .1 .0) f (first .ensures) (omega arith) (sum .result) (rw new at (sum .ensures))
+    ∙ ap (say (x .s) (x .carry .now) (x .chunk .now)) (sum-right (getD f (6 + x .n) 0) (getD f (6 + x .n + 1) 0) (sum .result) (x .class) (x .id) (x .n) (c .before .before .before .before .before .if4 .taken) (eqb-true _ _ (c .before .before .before .if5 .taken))))
     (c .hand .ensures (x .carry .now) (x .chunk .now))
 
 tell-wrong-requires : tie.Need-tell-wrong-requires
@@ -151,14 +145,9 @@ returns-5 c = let start = c .before .before .before .before .before .before .bef
     let m = c .before .before .before .before .before .before .before .before .before .before .if3 .left in
     let first = c .before .before .before .before .before .before .before .before .before .before .before .first-of in let f = first .result .now in
     let new = c .before .before .before .before .before .before .before .before .before .new .ensures in let sum = c .before .before .before .before .before .before .before .update in
-    let side = on-first (x .s) (x .carry .now) (x .chunk .now) r _ (first .ensures) (Ubx (x .class) (x .id) (x .n)) (omega arith) in
-    let begins = first-begins (x .s) (x .carry .now) (x .chunk .now) r _ (first .ensures) in
     leaves-by _ _ _ _ _ _
-    (judges-here (x .s) (x .carry .now) (x .chunk .now) r (Ubx (x .class) (x .id) (x .n)) (h .1 .0) (omega arith) side
-    ∙ ap (say (x .s) (x .carry .now) (x .chunk .now))
-    (judged-first (getD f (6 + x .n) 0) (getD f (6 + x .n + 1) 0) (sum .result) (x .class) (x .id) (x .n) f (window (x .s) (x .carry .now) (x .chunk .now)) _ _
-    begins (omega arith) refl refl (rw new at (sum .ensures))
-    ∙ sum-wrong (getD f (6 + x .n) 0) (getD f (6 + x .n + 1) 0) (sum .result) (x .class) (x .id) (x .n) (⊎-elim (λ z. inr (eqb-false _ _ (z .2 .left))) (λ z. inl (z .left)) (c .before .before .before .if4 .came))))
+    (decides-here (x .s) (x .carry .now) (x .chunk .now) r (x .class) (x .id) (x .n) (h .1 .0) f (first .ensures) (omega arith) (sum .result) (rw new at (sum .ensures))
+    ∙ ap (say (x .s) (x .carry .now) (x .chunk .now)) (sum-wrong (getD f (6 + x .n) 0) (getD f (6 + x .n + 1) 0) (sum .result) (x .class) (x .id) (x .n) (⊎-elim (λ z. inr (eqb-false _ _ (z .2 .left))) (λ z. inl (z .left)) (c .before .before .before .if4 .came))))
     (c .tell-wrong .ensures (x .carry .now) (x .chunk .now))
 
 pub at-ubx-spec : {M : Type 1} → statement M

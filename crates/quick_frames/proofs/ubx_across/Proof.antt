@@ -4,10 +4,9 @@ use mathlib.Core.Logic.{⊎-elim, inl, inr}
 use native.Mathlib.Omega.{arith}
 use borrow.Author.Tests.{not-false, eqb-true, eqb-false}
 use Rattle.claim.specs.declared.Kind.the-variants.{Ubx}
-use Rattle.state.specs.Words.{window}
 use Rattle.framer.specs.Step.{say}
 use Rattle.quick_words.proofs.Written.{leaves-by}
-use Rattle.quick_frames.proofs.Ways.{slices, judges-fitting, sum-right, sum-wrong, judged-all}
+use Rattle.quick_frames.proofs.Ways.{decides-across, sum-right, sum-wrong}
 use borrow.Author.Needs.{needs}
 use Rattle.quick_frames.proofs.ubx_across.Statement.{statement}
 use Rattle.quick_frames.proofs.ubx_across.Tie as tie
@@ -106,13 +105,9 @@ returns-2 c = let start = c .before .before .before .before .before .before .bef
     let sum = c .before .before .before .before .before .before .before .before .before .before .before .before .before .before .before .before .before .before .sum-of in
     let at = c .before .before .before .before .before .before .before .before .before .before .before .before .before .before .byte-at in
     let next = c .before .before .before .before .before .before .before .before .before .before .byte-at2 in
-    let all = slices (x .s) (x .carry .now) (x .chunk .now) r in
     leaves-by _ _ _ _ _ _
-    (judges-fitting (x .s) (x .carry .now) (x .chunk .now) r (Ubx (x .class) (x .id) (x .n)) (h .1 .0) (omega arith) (omega arith)
-    ∙ ap (say (x .s) (x .carry .now) (x .chunk .now))
-    (judged-all (at .result) (next .result) (sum .result) (x .class) (x .id) (x .n) (window (x .s) (x .carry .now) (x .chunk .now))
-    (rw all at (at .ensures)) (rw all at (next .ensures)) (rw all at (sum .ensures))
-    ∙ sum-right (at .result) (next .result) (sum .result) (x .class) (x .id) (x .n) (c .before .before .before .before .before .before .before .before .if2 .taken) (eqb-true _ _ (c .before .before .before .before .before .before .if3 .taken))))
+    (decides-across (x .s) (x .carry .now) (x .chunk .now) r (x .class) (x .id) (x .n) (h .1 .0) (at .result) (next .result) (sum .result) (omega arith) (omega arith) (at .ensures) (next .ensures) (sum .ensures)
+    ∙ ap (say (x .s) (x .carry .now) (x .chunk .now)) (sum-right (at .result) (next .result) (sum .result) (x .class) (x .id) (x .n) (c .before .before .before .before .before .before .before .before .if2 .taken) (eqb-true _ _ (c .before .before .before .before .before .before .if3 .taken))))
     (c .before .before .bring .ensures)
 
 tell-wrong-requires : tie.Need-tell-wrong-requires
@@ -130,13 +125,9 @@ returns-3 c = let start = c .before .before .before .before .before .before .bef
     let sum = c .before .before .before .before .before .before .before .before .before .before .before .before .before .sum-of in
     let at = c .before .before .before .before .before .before .before .before .before .byte-at in
     let next = c .before .before .before .before .before .byte-at2 in
-    let all = slices (x .s) (x .carry .now) (x .chunk .now) r in
     leaves-by _ _ _ _ _ _
-    (judges-fitting (x .s) (x .carry .now) (x .chunk .now) r (Ubx (x .class) (x .id) (x .n)) (h .1 .0) (omega arith) (omega arith)
-    ∙ ap (say (x .s) (x .carry .now) (x .chunk .now))
-    (judged-all (at .result) (next .result) (sum .result) (x .class) (x .id) (x .n) (window (x .s) (x .carry .now) (x .chunk .now))
-    (rw all at (at .ensures)) (rw all at (next .ensures)) (rw all at (sum .ensures))
-    ∙ sum-wrong (at .result) (next .result) (sum .result) (x .class) (x .id) (x .n) (⊎-elim (λ z. inr (eqb-false _ _ (z .2 .left))) (λ z. inl (z .left)) (c .before .before .before .if2 .came))))
+    (decides-across (x .s) (x .carry .now) (x .chunk .now) r (x .class) (x .id) (x .n) (h .1 .0) (at .result) (next .result) (sum .result) (omega arith) (omega arith) (at .ensures) (next .ensures) (sum .ensures)
+    ∙ ap (say (x .s) (x .carry .now) (x .chunk .now)) (sum-wrong (at .result) (next .result) (sum .result) (x .class) (x .id) (x .n) (⊎-elim (λ z. inr (eqb-false _ _ (z .2 .left))) (λ z. inl (z .left)) (c .before .before .before .if2 .came))))
     (c .tell-wrong .ensures (x .carry .now) (x .chunk .now))
 
 pub ubx-across-spec : {M : Type 1} → statement M
