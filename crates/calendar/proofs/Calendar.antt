@@ -35,11 +35,11 @@ by_400 n h = omega arith
 not_by_400 : (n : ℕ) → ((1970 + n) % 400 ≡ 0 → ⊥) → (suc n + 369) / 400 ≡ (n + 369) / 400 + 0
 not_by_400 n h = omega arith
 
-400_100 : (y : ℕ) → y % 400 ≡ 0 → y % 100 ≡ 0
-400_100 y h = omega arith
+four_of_hundred : (y : ℕ) → y % 400 ≡ 0 → y % 100 ≡ 0
+four_of_hundred y h = omega arith
 
-100_4 : (y : ℕ) → y % 100 ≡ 0 → y % 4 ≡ 0
-100_4 y h = omega arith
+hundred_of_four : (y : ℕ) → y % 100 ≡ 0 → y % 4 ≡ 0
+hundred_of_four y h = omega arith
 
 -- by the rule's outcomes
 by_rule : (P : Bool → Type 0) (y : ℕ) → (y % 400 ≡ 0 → P true) → ((y % 400 ≡ 0 → ⊥) → y % 100 ≡ 0 → P false)
@@ -69,10 +69,10 @@ module _ (n days : ℕ) (e : Counted n days) where
   one_year =
       let y : ℕ = 1970 + n in
       by_rule (λ l. Counted (suc n) (days + pick l 366 365)) y
-      (λ h. grown 1 1 1 366 refl (by_4 n (100_4 y (400_100 y h))) (by_100 n (400_100 y h)) (by_400 n h))
-      (λ f h. grown 1 1 0 365 refl (by_4 n (100_4 y h)) (by_100 n h) (not_by_400 n f))
-      (λ f h. grown 1 0 0 366 refl (by_4 n h) (not_by_100 n f) (not_by_400 n (λ k. f (400_100 y k))))
-      (λ f. grown 0 0 0 365 refl (not_by_4 n f) (not_by_100 n (λ k. f (100_4 y k))) (not_by_400 n (λ k. f (100_4 y (400_100 y k)))))
+      (λ h. grown 1 1 1 366 refl (by_4 n (hundred_of_four y (four_of_hundred y h))) (by_100 n (four_of_hundred y h)) (by_400 n h))
+      (λ f h. grown 1 1 0 365 refl (by_4 n (hundred_of_four y h)) (by_100 n h) (not_by_400 n f))
+      (λ f h. grown 1 0 0 366 refl (by_4 n h) (not_by_100 n f) (not_by_400 n (λ k. f (four_of_hundred y k))))
+      (λ f. grown 0 0 0 365 refl (not_by_4 n f) (not_by_100 n (λ k. f (hundred_of_four y k))) (not_by_400 n (λ k. f (hundred_of_four y (four_of_hundred y k)))))
 
 counted : (n : ℕ) → Counted n (days_of_years n)
 unfolding days_of_years

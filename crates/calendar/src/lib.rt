@@ -1,4 +1,6 @@
 // The Gregorian calendar: whether a date and a time are in range, the number of a day, and seconds since 1970.
+#![tactic(auto)]
+
 ghost use Rattle.std.specs.Prelude.{◌≡◌, ◌≤◌, ◌<◌};
 ghost use Rattle.calendar.specs.Calendar.{leap, days_in, days_before_year, days_before_month, day_number, seconds_at};
 ghost use Rattle.calendar.specs.Ranges.{within, is_date, is_time};

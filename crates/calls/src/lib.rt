@@ -1,10 +1,12 @@
 // A recorded call, and how it is made.
+#![tactic(auto)]
+
 ghost use Rattle.std.specs.Prelude.{◌≡◌};
 ghost use Rattle.calls.specs.Made.{answer_out, step_out, made};
 
 // Start and view have what they are asked with. NoCall is for words that no call has: another operation, MAX over 65,535,
 // something asked of a call that asks nothing.
-#[derive(Drop)]
+#[derive(Clone, Copy)]
 pub enum Call {
     Start { mode: u64, max: u16 },
     Open,

@@ -1,4 +1,6 @@
 // The lent carry's two writes. Rust: parser/buffer.rs, `FixedLinearBuffer`; its `clear` is `drain` with nothing left.
+#![tactic(auto)]
+
 ghost use Rattle.std.specs.Prelude.{◌≡◌, ◌+◌, ◌-◌, ◌≤◌, length, take, drop};
 ghost use Rattle.std.proofs.Math.Seq.{paste};
 ghost use Rattle.carry.specs.Carry.{drain_carry};

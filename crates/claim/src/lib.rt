@@ -1,6 +1,8 @@
 // A frame that a head claims: its length, the hand-out test, and what a step says of it by its sum or its parity. All of this goes
 // by numbers; the window's bytes are read in `look`. Rust: parser/buffer.rs, `can_drain_and_take`; parser.rs, what
 // `extract_packet_ubx`, `extract_packet_rtcm` and `extract_packet_nmea` answer.
+#![tactic(auto)]
+
 ghost use Rattle.std.specs.Prelude.{◌≡◌, ◌+◌, ◌*◌, ◌%◌, ◌≤◌, ◌<◌, ◌^◌, ltb};
 ghost use Rattle.sum.specs.Sum.{pair_of};
 ghost use Rattle.claim.specs.declared.Tale.TheVariants.{WrongSum};
@@ -24,7 +26,7 @@ pub const NMEA_END_CHARS_LEN: usize = 2;
 
 // A frame that a head claims: UBX with class, id and n; RTCM with n, and whether it is read with parity; a sentence whose CR
 // stands at i.
-#[derive(Drop)]
+#[derive(Clone, Copy)]
 pub enum Kind {
     Ubx { class: u8, id: u8, n: usize },
     Rtcm { n: usize, parity: bool },
@@ -32,7 +34,7 @@ pub enum Kind {
 }
 
 // An answer that hands out no bytes.
-#[derive(Drop)]
+#[derive(Clone, Copy)]
 pub enum Tale {
     WrongSum {
         class: u8,
@@ -52,7 +54,7 @@ pub enum Tale {
 }
 
 // What a step says: drain so many and need more; a tale; a frame to hand out.
-#[derive(Drop)]
+#[derive(Clone, Copy)]
 pub enum Verdict {
     Wait(usize),
     Tell(Tale),

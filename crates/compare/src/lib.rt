@@ -1,10 +1,12 @@
 // What came back beside what is recorded.
+#![tactic(auto)]
+
 ghost use Rattle.std.specs.Prelude.{◌≡◌, length};
 ghost use Rattle.compare.specs.Compare.{Tells, Both};
 
 use records::wide;
 
-#[derive(Drop)]
+#[derive(Clone, Copy)]
 pub enum Part {
     Out,
     State,
@@ -12,7 +14,7 @@ pub enum Part {
 }
 
 // A word or byte that differs: which one of its part, what it is and what is recorded.
-#[derive(Drop)]
+#[derive(Clone, Copy)]
 pub struct Difference {
     pub part: Part,
     pub at: usize,
@@ -20,7 +22,7 @@ pub struct Difference {
     pub recorded: u64,
 }
 
-#[derive(Drop)]
+#[derive(Clone, Copy)]
 pub enum Outcome {
     Same,
     Differs(Difference),

@@ -1,5 +1,7 @@
 // The listing's two ends: its first line and its last. Each is put into a lent buffer from a place on, and the answer is the place
 // behind it.
+#![tactic(auto)]
+
 ghost use Rattle.std.specs.Prelude.{◌≡◌, ◌+◌, ◌≤◌, length};
 ghost use Rattle.text.specs.Text.{Puts};
 ghost use Rattle.ends.specs.Ends.{mode_no, setting, header, totals};

@@ -1,5 +1,7 @@
 // The framer's answers and its step: a state of numbers, with carry and chunk lent to each call. Rust: parser.rs, `Parser` and
 // the iterators.
+#![tactic(auto)]
+
 ghost use Rattle.std.specs.Prelude.{◌≡◌, ◌≤◌};
 ghost use Rattle.look.specs.Within.{Says};
 ghost use Rattle.state.specs.Words.{left_len, width, drain};
@@ -12,7 +14,7 @@ use state::{Leave, Refusal, State};
 use taking::Place;
 
 // What a step answers; `at` is the position, `used` at the sync byte.
-#[derive(Drop)]
+#[derive(Clone, Copy)]
 pub enum Answer {
     UbxFrame {
         class: u8,
@@ -49,7 +51,7 @@ pub enum Answer {
     },
 }
 
-#[derive(Drop)]
+#[derive(Clone, Copy)]
 pub struct Stepped {
     pub answer: Answer,
     pub state: State,

@@ -1,5 +1,7 @@
 // Lists a capture by mode and MAX: UBX frames, RTCM frames, with parity or without, sentences, wrong sums, wrong parities and no
 // room. C is 16,384.
+#![tactic(auto)]
+
 ghost use Rattle.std.specs.Prelude.{◌≡◌, true, ◌≤◌};
 ghost use Rattle.frames.specs.Words.{next_of, number_of, mode_of, max_at, parity_word};
 
@@ -7,14 +9,14 @@ use libc::{STDERR_FILENO, STDIN_FILENO, STDOUT_FILENO};
 use window::Mode;
 
 // The number that a word says, if it says one.
-#[derive(Drop)]
+#[derive(Clone, Copy)]
 enum Number {
     Is(u16),
     No,
 }
 
 // The mode that a number names, if it names one.
-#[derive(Drop)]
+#[derive(Clone, Copy)]
 enum Choice {
     Of(Mode),
     None,

@@ -1,5 +1,7 @@
 // What stands in the listing's lines of answers: a position with a label and a number, a UBX frame, two sums or two parities. Each is
 // put into a lent buffer from a place on, and the answer is the place behind it.
+#![tactic(auto)]
+
 ghost use Rattle.std.specs.Prelude.{◌≡◌, ◌++◌, ◌+◌, ◌≤◌, length};
 ghost use Rattle.text.specs.Text.{ascii, Puts};
 ghost use Rattle.text.specs.Digits.{decimal, hex};

@@ -1,4 +1,6 @@
 // The lines of the listing's answers. Each is put into a lent buffer from a place on, and the answer is the place behind it.
+#![tactic(auto)]
+
 ghost use Rattle.std.specs.Prelude.{◌≡◌, ◌+◌, ◌-◌, ◌≤◌, length};
 ghost use Rattle.text.specs.Text.{Puts};
 ghost use Rattle.lines.specs.Lines.{line};

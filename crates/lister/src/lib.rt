@@ -1,4 +1,6 @@
 // A listing of what a descriptor gives, on standard output: chunk by chunk, each answer's line, in lent memory.
+#![tactic(auto)]
+
 ghost use Rattle.std.specs.Prelude.{◌≡◌, ◌+◌, ◌<◌, ◌≤◌, length};
 ghost use Rattle.lister.specs.Listing.{flushed, counted, Tells, Fills, Answers, Lists};
 
@@ -10,7 +12,7 @@ use window::Mode;
 
 // Where a listing stands: the parser; used and lost of all closes so far, and kept of the last; how many bytes of lines wait in
 // the buffer; whether every write so far was taken; and whether the frame of a wrong sum is named.
-#[derive(Drop)]
+#[derive(Clone, Copy)]
 pub struct Listing {
     pub state: State,
     pub used: u64,
@@ -22,7 +24,7 @@ pub struct Listing {
 }
 
 // A listing, and whether it goes on.
-#[derive(Drop)]
+#[derive(Clone, Copy)]
 pub struct Turn {
     pub listing: Listing,
     pub more: bool,

@@ -1,5 +1,7 @@
 // The listing on made files: an empty one, a wrong sum, frames in noise, a frame cut at every place, no room, a loss, every kind of
 // frame, and RTCM frames without parity and with it.
+#![tactic(auto)]
+
 ghost use Rattle.std.specs.Prelude.{◌≤◌};
 
 use window::Mode;

@@ -1,5 +1,7 @@
 // What stands at the window's front: the four rules. Rust: parser.rs, the heads of the three iterators' `next` and
 // `extract_packet_ubx`, `extract_packet_rtcm`, `extract_packet_nmea`.
+#![tactic(auto)]
+
 ghost use Rattle.std.specs.Prelude.{◌≡◌, true, ◌++◌, ◌+◌, ◌≤◌, ◌<◌, length};
 ghost use Rattle.window.specs.declared.Found.TheVariants.{Nothing};
 ghost use Rattle.claim.specs.declared.Kind.TheVariants.{Ubx, Rtcm, Sentence};
@@ -16,7 +18,7 @@ const NMEA_MIN_BUFFER_SIZE: usize = 8;
 const NMEA_MAX_SENTENCE_LENGTH: usize = 82;
 
 // Why bytes are passed in silence: the front byte is no sync byte; the second byte is not 62; n is over MAX.
-#[derive(Drop)]
+#[derive(Clone, Copy)]
 pub enum Why {
     NoSync,
     NotPair,
@@ -24,7 +26,7 @@ pub enum Why {
 }
 
 // A look at the window's front: bytes to pass, or something to say.
-#[derive(Drop)]
+#[derive(Clone, Copy)]
 pub enum Sight {
     Pass(Why),
     Say(Verdict),

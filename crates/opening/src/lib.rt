@@ -1,5 +1,7 @@
 // Starting, opening and closing a parser: a state of numbers, with carry and chunk lent to each call. Rust: parser.rs, `Parser`;
 // parser/buffer.rs, `DualBuffer`'s `Drop`.
+#![tactic(auto)]
+
 ghost use Rattle.std.specs.Prelude.{◌≡◌, length};
 ghost use Rattle.state.specs.declared.Leave.TheVariants.{Granted};
 ghost use Rattle.state.specs.Ready.{Ready};
@@ -9,13 +11,13 @@ ghost use Rattle.opening.specs.Promises.{Opens, Closes};
 use state::{LIMIT, Leave, Refusal, State};
 use window::{Mode, least};
 
-#[derive(Drop)]
+#[derive(Clone, Copy)]
 pub struct Opened {
     pub leave: Leave,
     pub state: State,
 }
 
-#[derive(Drop)]
+#[derive(Clone, Copy)]
 pub struct Closed {
     pub leave: Leave,
     pub used: usize,

@@ -1,5 +1,7 @@
 // The framer for C: five functions over arrays of words and lent bytes. include/orgnevis.h documents them. The writer's four stand
 // in writes.rt.
+#![tactic(auto)]
+
 mod writes;
 
 ghost use Rattle.std.specs.Prelude.{◌≡◌, length};

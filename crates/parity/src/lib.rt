@@ -1,4 +1,6 @@
 // 02, Ticket 4: the parity of an RTCM frame, CRC-24Q, one entry of the table to a byte.
+#![tactic(auto)]
+
 mod table;
 
 ghost use Rattle.std.specs.Prelude.{◌≡◌};

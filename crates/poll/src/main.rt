@@ -1,6 +1,8 @@
 // Writes frames and frames what it wrote: the MON-VER poll, and a CFG-MSG frame whose payload comes in three pieces, one of them
 // empty. Says each call's number and the memory's bytes, then the listing's lines of the frame, fed alone as one chunk to a fresh
 // parser in each mode. At last, calls that are all refused.
+#![tactic(auto)]
+
 use libc::STDOUT_FILENO;
 use lines::LONGEST;
 use state::State;

@@ -1,4 +1,6 @@
 // A chunk opened and closed at once, written straight into the words.
+#![tactic(auto)]
+
 ghost use Rattle.std.specs.Prelude.{◌≡◌, length};
 ghost use Rattle.state.specs.declared.Leave.TheVariants.{Granted};
 ghost use Rattle.state.specs.Refusals.{may_open, may_use};

@@ -1,5 +1,7 @@
 // A frame that is claimed at the window's front: it waits, is handed out, or its sum is wrong. Where none of this is done here,
 // nothing is written.
+#![tactic(auto)]
+
 ghost use Rattle.std.specs.Prelude.{◌≡◌, false, ◌+◌, ◌≤◌, ◌<◌};
 ghost use Rattle.claim.specs.declared.Kind.TheVariants.{Ubx, Rtcm};
 ghost use Rattle.look.specs.Rules.{claim};

@@ -1,5 +1,7 @@
 // The ways that most steps go, written straight into the words. A step that goes another way is not done here, and then nothing
 // is written.
+#![tactic(auto)]
+
 ghost use Rattle.std.specs.Prelude.{◌≡◌, true, false, ◌⊎◌, get_or};
 ghost use Rattle.window.specs.Sync.{has_parity, is_sync, first_sync};
 ghost use Rattle.state.specs.Words.{window, width, drain};

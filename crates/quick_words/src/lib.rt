@@ -1,5 +1,7 @@
 // What a step writes into the words at once: need more, a wrong sum, or a frame that one side has all of or that the carry takes
 // in.
+#![tactic(auto)]
+
 ghost use Rattle.std.specs.Prelude.{◌≡◌, true, List, ℕ, ◌+◌, ◌-◌, ◌≤◌, ◌<◌};
 ghost use Rattle.sum.specs.Sum.{pair_of};
 ghost use Rattle.claim.specs.declared.Tale.TheVariants.{WrongSum};

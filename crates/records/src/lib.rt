@@ -8,18 +8,20 @@
 //     24 to 31  out
 //     32        1 if a byte of the carry changes
 //     33        how many bytes follow the record's length word
+#![tactic(auto)]
+
 ghost use Rattle.std.specs.Prelude.{◌≡◌, ◌+◌, ◌≤◌};
 ghost use Rattle.records.specs.Words.{state_of, out_of};
 
 // calls.bin, refusals.bin.
-#[derive(Drop)]
+#[derive(Clone, Copy)]
 pub enum List {
     Calls,
     Refusals,
 }
 
 // The bytes of a record that say a word: width from at on. Width is 0 for a word that the list hasn't got.
-#[derive(Drop)]
+#[derive(Clone, Copy)]
 struct Field {
     at: usize,
     width: usize,

@@ -1,6 +1,8 @@
 // Replays the two lists of calls that oracle/vectors writes, through the five C functions, and compares all that comes
 // back: out words, the state's 24 words, every byte of the carry. Says how many calls it compared, or the first that
 // differs and stops there. oracle/README.md has the form of the lists.
+#![tactic(auto)]
+
 mod report;
 
 ghost use Rattle.std.specs.Prelude.{◌≡◌, length};
@@ -52,7 +54,7 @@ fn replay_rest(
     if !filled(fd, list, recorded) {
         return Turn::Short;
     }
-    bytes::copy(recorded, carry);
+    carry.copy_from_slice(recorded);
     if !filled(fd, list, chunk) {
         return Turn::Short;
     }

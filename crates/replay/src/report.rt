@@ -5,7 +5,7 @@ use records::plus;
 use replaying::Turn;
 
 // The calls that did as recorded, by operation.
-#[derive(Drop)]
+#[derive(Clone, Copy)]
 pub struct Tally {
     pub start: u64,
     pub open: u64,
@@ -15,7 +15,7 @@ pub struct Tally {
 }
 
 // A list's calls up to its last turn.
-#[derive(Drop)]
+#[derive(Clone, Copy)]
 pub struct Run {
     pub tally: Tally,
     pub last: Turn,

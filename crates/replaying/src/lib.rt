@@ -1,5 +1,7 @@
 // A record's call, made through the C functions, and all that comes back compared with the record: out words, the state's 24 words,
 // every byte of the carry.
+#![tactic(auto)]
+
 ghost use Rattle.std.specs.Prelude.{◌≡◌, length};
 ghost use Rattle.replaying.specs.Replayed.{Replayed};
 
@@ -8,7 +10,7 @@ use compare::{Difference, Outcome};
 
 // What came of a list's next record: its call did as recorded, or not; the list has no more, or not a whole one, or
 // bytes that are no record's.
-#[derive(Drop)]
+#[derive(Clone, Copy)]
 pub enum Turn {
     Same(Call),
     Differs(Call, Difference),

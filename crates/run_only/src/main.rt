@@ -1,4 +1,6 @@
 // 01's 'Run only' lines, run: each is a carry and one or two chunks put through the operations, and what they answer.
+#![tactic(auto)]
+
 use framer::Answer;
 use state::{Leave, State};
 use window::Mode;

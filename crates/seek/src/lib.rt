@@ -1,6 +1,8 @@
 // The loop that passes what is to be passed in silence, until something is to be said: at the heads on one side of the window as
 // long as these tell, then at both sides; and what a head on one side claims, for a caller that tries it before the loop. Rust:
 // parser.rs, the loops around the heads of the three iterators' `next`.
+#![tactic(auto)]
+
 ghost use Rattle.std.specs.Prelude.{◌≡◌, true, false, List, ◌++◌, ℕ, ◌+◌, ◌≤◌, ◌<◌, length, get_or};
 ghost use Rattle.window.specs.Sync.{is_sync, has_parity};
 ghost use Rattle.claim.specs.declared.Kind.TheVariants.{Ubx};
@@ -14,7 +16,7 @@ use look::{Sight, Why};
 use window::Mode;
 
 // What one side of the window tells of its front: nothing; bytes to pass; what is said.
-#[derive(Drop)]
+#[derive(Clone, Copy)]
 enum Hint {
     Unsure,
     Past(Why),
@@ -23,7 +25,7 @@ enum Hint {
 
 // What a head tells that one side of the window has: nothing; bytes to pass; a UBX frame that it claims, or an RTCM frame that is read
 // without parity.
-#[derive(Drop)]
+#[derive(Clone, Copy)]
 pub enum Head {
     Unsure,
     Past(Why),
@@ -32,7 +34,7 @@ pub enum Head {
 }
 
 // How many bytes are passed in silence, and what is said there.
-#[derive(Drop)]
+#[derive(Clone, Copy)]
 pub struct Stop {
     pub skip: usize,
     pub verdict: Verdict,

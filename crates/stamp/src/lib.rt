@@ -1,4 +1,6 @@
 // Stamps that never run back: NAV-TIMEUTC frames read to nanoseconds since 1970, over the framer's answers.
+#![tactic(auto)]
+
 ghost use Rattle.std.specs.Prelude.{◌≡◌, true, ◌<◌, length};
 ghost use Rattle.taking.specs.View.{view};
 ghost use Rattle.stamp.specs.Message.{is_this, is_minus, distance, fields_of, is_valid, in_range};
@@ -26,14 +28,14 @@ const HALF: u64 = 0x80000000;
 const ALL: u64 = 0x100000000;
 
 // The last stamp handed out, if any. Any value is taken.
-#[derive(Drop)]
+#[derive(Clone, Copy)]
 pub enum Clock {
     Unset,
     Last(u64),
 }
 
 // The three refusals, in their order.
-#[derive(Drop)]
+#[derive(Clone, Copy)]
 pub enum Fault {
     NotThisMessage,
     NotValid,
@@ -41,7 +43,7 @@ pub enum Fault {
 }
 
 // What a frame is read to: a stamp, handed out; or how far one would be below the last, in nanoseconds; or a refusal.
-#[derive(Drop)]
+#[derive(Clone, Copy)]
 pub enum Reading {
     Stamp(u64),
     BackBy(u64),
@@ -49,21 +51,21 @@ pub enum Reading {
 }
 
 // A frame's reading, and the clock after it.
-#[derive(Drop)]
+#[derive(Clone, Copy)]
 pub struct Heard {
     pub reading: Reading,
     pub clock: Clock,
 }
 
 // What a step tells: nothing, where it handed out no UBX frame; or the frame's reading.
-#[derive(Drop)]
+#[derive(Clone, Copy)]
 pub enum Told {
     Nothing,
     Frame(Reading),
 }
 
 // A step's answer and next state, what it told, and the clock after it.
-#[derive(Drop)]
+#[derive(Clone, Copy)]
 pub struct Timed {
     pub answer: Answer,
     pub told: Told,
@@ -72,14 +74,14 @@ pub struct Timed {
 }
 
 // What an answer told, and the clock after it.
-#[derive(Drop)]
+#[derive(Clone, Copy)]
 struct News {
     told: Told,
     clock: Clock,
 }
 
 // A payload's fields; of the nanoseconds, whether they are below zero, and how far from it.
-#[derive(Drop)]
+#[derive(Clone, Copy)]
 struct Fields {
     minus: bool,
     nano: u64,

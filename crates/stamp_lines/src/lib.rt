@@ -1,4 +1,6 @@
 // The stamps' lines: what each step brought, the counts, and the bytes of their lines, put into lent memory.
+#![tactic(auto)]
+
 ghost use Rattle.std.specs.Prelude.{◌≡◌, ◌+◌, ◌≤◌, length};
 ghost use Rattle.text.specs.Text.{Puts};
 ghost use Rattle.stamp_lines.specs.Lines.{refused, said, line, tallies, totals};
@@ -14,7 +16,7 @@ const ID: u8 = 0x21;
 
 // What a step brought: a frame of class 01 and id 21, with its reading; another UBX frame; a wrong sum; an answer that is not
 // counted; or the end of what the chunk gives.
-#[derive(Drop)]
+#[derive(Clone, Copy)]
 pub enum Note {
     Time { at: usize, reading: Reading },
     Other,
@@ -24,7 +26,7 @@ pub enum Note {
 }
 
 // Time frames by their reading, other UBX frames, and wrong sums.
-#[derive(Drop)]
+#[derive(Clone, Copy)]
 pub struct Tally {
     pub stamps: u64,
     pub back: u64,

@@ -1,5 +1,7 @@
 // The stamps in what a descriptor gives, on standard output: chunk by chunk, a line for each frame of class 01 and id 21, in lent
 // memory.
+#![tactic(auto)]
+
 ghost use Rattle.std.specs.Prelude.{◌≡◌, ◌+◌, ◌≤◌, length};
 ghost use Rattle.stamper.specs.Stamping.{flushed, counted, Makes, Tells, Steps, Through};
 
@@ -15,7 +17,7 @@ const LONGEST: usize = 218;
 
 // Where the program stands: the parser and the last stamp; what was counted; used and lost of all closes so far, and kept of the
 // last; how many bytes of lines wait in the buffer; and whether every write so far was taken.
-#[derive(Drop)]
+#[derive(Clone, Copy)]
 pub struct Stamping {
     pub state: State,
     pub clock: Clock,
@@ -28,7 +30,7 @@ pub struct Stamping {
 }
 
 // Where it stands, and whether it goes on.
-#[derive(Drop)]
+#[derive(Clone, Copy)]
 pub struct Turn {
     pub stamping: Stamping,
     pub more: bool,

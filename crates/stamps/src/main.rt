@@ -1,4 +1,6 @@
 // The stamps in standard input, in mode one, MAX 240, C 247.
+#![tactic(auto)]
+
 use libc::STDIN_FILENO;
 use window::Mode;
 

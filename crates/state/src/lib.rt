@@ -1,5 +1,7 @@
 // The state of a parser: 01's window over a lent carry and a lent chunk, draining it, and the refusals that a state's numbers
 // decide. Rust: parser.rs, `Parser`; parser/buffer.rs, `DualBuffer`'s `drain`.
+#![tactic(auto)]
+
 ghost use Rattle.std.specs.Prelude.{◌≡◌, true, ◌+◌, ◌≤◌};
 ghost use Rattle.state.specs.Words.{width, drain, idle};
 ghost use Rattle.state.specs.Refusals.{idle_bad, is_bad, may_open, may_use};
@@ -14,7 +16,7 @@ pub const LIMIT: usize = 16384;
 const COUNT_LIMIT: usize = 32768;
 
 // 01's seven refusals, in the table's order.
-#[derive(Drop)]
+#[derive(Clone, Copy)]
 pub enum Refusal {
     CarryTooBig,
     BadState,
@@ -26,7 +28,7 @@ pub enum Refusal {
 }
 
 // Whether a call is refused.
-#[derive(Drop)]
+#[derive(Clone, Copy)]
 pub enum Leave {
     Granted,
     Denied(Refusal),
@@ -34,7 +36,7 @@ pub enum Leave {
 
 // A parser: mode and MAX; C, the carry's length; how many of the carry's bytes are live, and how many of these used up; the
 // bytes used since opening; whether it is open, the chunk's length then, and the chunk part used.
-#[derive(Drop)]
+#[derive(Clone, Copy)]
 pub struct State {
     pub mode: Mode,
     pub max: u16,

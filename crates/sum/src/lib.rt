@@ -1,9 +1,11 @@
 // 01, "The sum": Fletcher's two running bytes. Rust: parser/checksum.rs.
+#![tactic(auto)]
+
 ghost use Rattle.std.specs.Prelude.{◌≡◌};
 ghost use Rattle.sum.specs.Sum.{sum_on, zeros, pair_of};
 
 // a and b, both kept modulo 256.
-#[derive(Drop)]
+#[derive(Clone, Copy)]
 pub struct Sums {
     pub a: u8,
     pub b: u8,

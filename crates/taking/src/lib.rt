@@ -1,4 +1,6 @@
 // A body's place: taking brings the body to one side, and viewing reads it there. Rust: parser/buffer.rs, `DualBuffer`'s `take`.
+#![tactic(auto)]
+
 ghost use Rattle.std.specs.Prelude.{◌≡◌, ◌<◌, length};
 ghost use Rattle.state.specs.Words.{left_len};
 ghost use Rattle.state.specs.Ready.{Ready, Room};
@@ -9,14 +11,14 @@ use state::{Leave, Refusal, State};
 use window::least;
 
 // The two lent buffers.
-#[derive(Drop)]
+#[derive(Clone, Copy)]
 pub enum Side {
     Carry,
     Chunk,
 }
 
 // Where a body lies: its side, its start from that buffer's first byte, and its length. Good until the next step or close.
-#[derive(Drop)]
+#[derive(Clone, Copy)]
 pub struct Place {
     pub side: Side,
     pub start: usize,
@@ -24,7 +26,7 @@ pub struct Place {
 }
 
 // A body's place, and the state once it is taken.
-#[derive(Drop)]
+#[derive(Clone, Copy)]
 pub struct Taken {
     pub place: Place,
     pub state: State,

@@ -1,5 +1,7 @@
 // Text put into a lent buffer from a place on; the answer is the place behind it. Bytes as they are, numbers in decimal and in
 // hexadecimal, and what the lines of the listing and of the stamps share: a label and a number, a position, a line's end.
+#![tactic(auto)]
+
 ghost use Rattle.std.specs.Prelude.{◌≡◌, ◌+◌, ◌<◌, ◌≤◌, ◌++◌, length};
 ghost use Rattle.text.specs.Text.{ascii, Puts};
 ghost use Rattle.text.specs.Digits.{decimal, hex_digit, hex};
@@ -10,7 +12,9 @@ pub fn text(out: &mut [u8], at: usize, s: &[u8]) -> usize
     requires { at + length s.now ≤ length out.old }
     ensures { Puts s.now out.old at out.new result }
 {
-    at + bytes::copy(s, &mut out[at..])
+    let end = at + s.len();
+    out[at..end].copy_from_slice(s);
+    end
 }
 
 // A number's decimal digits.

@@ -1,5 +1,7 @@
 // Looking at the window: what is left of the carry, then what is left of the chunk, lent as two slices and read as one
 // list. Rust: parser/buffer.rs, `DualBuffer`, and constants.rs.
+#![tactic(auto)]
+
 ghost use Rattle.std.specs.Prelude.{◌≡◌, ◌++◌, ◌+◌, ◌-◌, ◌≤◌, ◌<◌, min, length, get_or, take, drop};
 ghost use Rattle.sum.specs.Sum.{sum_of};
 ghost use Rattle.parity.specs.Parity.{parity_of};
@@ -23,7 +25,7 @@ const NMEA_END_CHAR_2: u8 = 0x0A;
 
 // One: UBX. Two: UBX and RTCM. Three: UBX, RTCM and NMEA. With each the setting: whether an RTCM frame is read with its parity;
 // without, as the crate reads it, it ends before.
-#[derive(Drop)]
+#[derive(Clone, Copy)]
 pub enum Mode {
     One(bool),
     Two(bool),
@@ -31,14 +33,14 @@ pub enum Mode {
 }
 
 // Where a search found what it looks for.
-#[derive(Drop)]
+#[derive(Clone, Copy)]
 pub enum Found {
     At(usize),
     Nothing,
 }
 
 // What a search looks for: the sync bytes of a mode, or CR.
-#[derive(Drop)]
+#[derive(Clone, Copy)]
 enum Needle {
     Ubx,
     UbxRtcm,

@@ -1,4 +1,6 @@
 // The words in which the framer's states and answers cross to C. include/orgnevis.h says which word is what.
+#![tactic(auto)]
+
 ghost use Rattle.std.specs.Prelude.{◌≡◌};
 ghost use Rattle.state.specs.Refusals.{leave_no, refusal_no};
 ghost use Rattle.framer.specs.Answers.{side_no};
@@ -13,14 +15,14 @@ use taking::{Place, Side};
 use window::Mode;
 
 // A state read from words, where they are those of a state.
-#[derive(Drop)]
+#[derive(Clone, Copy)]
 pub enum Read {
     Is(State),
     NoState,
 }
 
 // A mode read from a number, where that is a mode's.
-#[derive(Drop)]
+#[derive(Clone, Copy)]
 pub enum ModeRead {
     Known(Mode),
     NoMode,

@@ -1,12 +1,14 @@
 // 02, "Writing frames": a UBX frame built in lent memory from class, id and a payload that arrives in pieces, the length named
 // first; and the MON-VER poll. A refused call writes nothing.
+#![tactic(auto)]
+
 ghost use Rattle.std.specs.Prelude.{◌≡◌, ◌+◌, ◌≤◌, length};
 ghost use Rattle.writer.specs.Writing.{put, beginning, adding, finishing, polling};
 ghost use Rattle.writer.specs.Promises.{Writes, Polls};
 
 use writer_state::{Leave, Refusal, Writer};
 
-#[derive(Drop)]
+#[derive(Clone, Copy)]
 pub struct Written {
     pub leave: Leave,
     pub state: Writer,

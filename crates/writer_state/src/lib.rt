@@ -1,4 +1,6 @@
 // The state of a frame that is being written, and the refusals that its numbers decide, in 02's order.
+#![tactic(auto)]
+
 ghost use Rattle.std.specs.Prelude.{◌≡◌};
 ghost use Rattle.writer_state.specs.Refusals.{leave_no, refusal_no, may_begin, is_bad, may_add, may_finish};
 
@@ -12,7 +14,7 @@ pub const HEAD: usize = 6;
 pub const AROUND: usize = 8;
 
 // 02's refusals, in its order.
-#[derive(Drop)]
+#[derive(Clone, Copy)]
 pub enum Refusal {
     TooLong,
     NoRoom,
@@ -22,14 +24,14 @@ pub enum Refusal {
 }
 
 // Whether a call is refused.
-#[derive(Drop)]
+#[derive(Clone, Copy)]
 pub enum Leave {
     Granted,
     Denied(Refusal),
 }
 
 // A frame that is being written: the memory's length, the payload's length, and how much of the payload is written.
-#[derive(Drop)]
+#[derive(Clone, Copy)]
 pub struct Writer {
     pub room: usize,
     pub len: usize,

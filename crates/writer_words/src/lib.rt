@@ -1,4 +1,6 @@
 // The words in which a writer's state crosses to C. include/orgnevis.h says which word is what.
+#![tactic(auto)]
+
 ghost use Rattle.std.specs.Prelude.{◌≡◌};
 ghost use Rattle.writer_words.specs.Words.{with_writer, writer_by};
 

@@ -1,0 +1,19 @@
+-- `framer::step` meets its contract.
+use mathlib.Core.Path.{refl, sym, ◌∙◌}
+use Rattle.state.proofs.Granted.{use_granted}
+use Rattle.framer.specs.Step.{step}
+use borrow.Author.Rules.{rules}
+use Rattle.framer.proofs.step.Goals as goal
+
+pub step_well-requires : goal.step_well-requires
+step_well-requires c = let x = c.args in
+    (use_granted x.s x.carry.now x.chunk.now (sym c.may_use-leave.ensures ∙ c.in-Granted.is)).ready
+
+pub returns-in-Denied : goal.returns-in-Denied
+unfolding step
+returns-in-Denied c = rw (sym c.may_use-leave.ensures ∙ c.in-Denied.is) (record { number = refl; values = refl; state = refl; bytes = refl })
+
+pub returns-in-Granted : goal.returns-in-Granted
+unfolding step
+returns-in-Granted c = let r = c.step_well.ensures.value in
+    rw (sym c.may_use-leave.ensures ∙ c.in-Granted.is) (record { number = rw r; values = rw r; state = rw r; bytes = c.step_well.ensures.carry_after })

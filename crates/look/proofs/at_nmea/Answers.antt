@@ -1,0 +1,32 @@
+-- `look::at_nmea` meets its contract: rule 4, by the end mark found.
+use mathlib.Core.Path.{sym, ◌∙◌}
+use mathlib.Core.List.{◌++◌}
+use Prim.Native.Nat.{◌<◌, ◌≤◌}
+use native.Mathlib.Omega.{arith}
+use lib.ListN.{length, length-append}
+use Rattle.window.specs.declared.Found.TheVariants.{At, Nothing}
+use Rattle.window.proofs.Laws.{mark_within}
+use Rattle.look.proofs.Rules.{nmea_short, nmea_long}
+use borrow.Author.Rules.{rules}
+use Rattle.look.proofs.at_nmea.Goals as goal
+
+pub returns-then-w-lt-NMEA_MIN_BUFFER_SIZE : goal.returns-then-w-lt-NMEA_MIN_BUFFER_SIZE
+returns-then-w-lt-NMEA_MIN_BUFFER_SIZE c = let x = c.args in
+    let h : length (x.a.now ++ x.b.now) < 8 = simp length-append (omega arith) in
+    rw (nmea_short x.mode (x.a.now ++ x.b.now) h)
+
+pub sentence_claimed-requires : goal.sentence_claimed-requires
+sentence_claimed-requires c = let x = c.args in
+    omega (arith, simp length-append at (mark_within 0 (x.a.now ++ x.b.now) c.in-At.i (sym c.find_end-end.ensures ∙ c.in-At.is)))
+
+pub returns-in-At : goal.returns-in-At
+returns-in-At c = let x = c.args in
+    let W = x.a.now ++ x.b.now in
+    let h : 8 ≤ length W = simp length-append (omega arith) in
+    c.sentence_claimed.ensures ∙ rw (nmea_long x.mode W (At c.in-At.i) (sym c.in-At.is ∙ c.find_end-end.ensures) h)
+
+pub returns-in-Nothing : goal.returns-in-Nothing
+returns-in-Nothing c = let x = c.args in
+    let W = x.a.now ++ x.b.now in
+    let h : 8 ≤ length W = simp length-append (omega arith) in
+    c.no_end.ensures ∙ rw (nmea_long x.mode W Nothing (sym c.in-Nothing.is ∙ c.find_end-end.ensures) h)

@@ -1,0 +1,16 @@
+-- `look::sentence_claimed` meets its contract.
+use mathlib.Core.Path.{sym, ap, ◌∙◌}
+use mathlib.Core.List.{◌++◌}
+use Rattle.claim.specs.declared.Kind.TheVariants.{Sentence}
+use Rattle.look.specs.declared.Sight.TheVariants.{Say}
+use Rattle.look.proofs.Rules.{claim_fits, claim_lacks, judge_sentence}
+use borrow.Author.Rules.{rules}
+use Rattle.look.proofs.sentence_claimed.Goals as goal
+
+pub returns-then-can_hand : goal.returns-then-can_hand
+returns-then-can_hand c = let x = c.args in
+    sym (claim_fits x.cap x.a.now x.b.now (Sentence x.i) (sym c.can_hand.ensures ∙ c.if-can_hand.true) ∙ ap Say (judge_sentence x.i (x.a.now ++ x.b.now)))
+
+pub returns : goal.returns
+returns c = let x = c.args in
+    ap Say c.lacks.ensures ∙ sym (claim_lacks x.cap x.a.now x.b.now (Sentence x.i) (sym c.can_hand.ensures ∙ c.if-can_hand.false))

@@ -1,0 +1,34 @@
+-- `orgnevis::orgnevis_step` meets its contract: done at once or in full, the answer is the same.
+use mathlib.Core.Path.{◌≡◌, sym, ◌∙◌}
+use mathlib.Core.Bool.{true, false}
+use Rattle.state.proofs.Granted.{use_granted}
+use Rattle.words.specs.declared.Read.TheVariants.{Is}
+use Rattle.words.specs.Plainly.{ReadsPlainly}
+use Rattle.words.proofs.Kept.{step_stays, stepped_words_are}
+use Rattle.orgnevis.specs.Calls.{steps}
+use Rattle.quick_chunk.proofs.AtOnce.{steps_well}
+use borrow.Author.Rules.{rules}
+use Rattle.orgnevis.proofs.orgnevis_step.Goals as goal
+
+pub step_at_once-requires : goal.step_at_once-requires
+step_at_once-requires c = let x = c.args in let read = c.read-1.given in let s = read.0.0 in
+    let p : ReadsPlainly x.state.now (Is s) = rw read.1 at c.read_plain-read.ensures in
+    record { ready = (use_granted s x.carry.now x.chunk.now (c.is_usable.ensures c.if-is_usable.true)).ready; mode_value = p.1 }
+
+pub returns-then-step_at_once : goal.returns-then-step_at_once
+unfolding steps
+returns-then-step_at_once c = let x = c.args in let read = c.read-1.given in let s = read.0.0 in
+    let p : ReadsPlainly x.state.now (Is s) = rw read.1 at c.read_plain-read.ensures in
+    let e = p.0 in
+    let o = steps_well s x.carry.now x.chunk.now (c.is_usable.ensures c.if-is_usable.true) in
+    let at_once = c.step_at_once in
+    let done : at_once.result ≡ true = c.if-step_at_once.true in
+    let l = rw (← o) at (rw done at at_once.ensures) in
+    let stays = step_stays s x.carry.now x.chunk.now in
+    record { state_after = l.stepped ∙ rw e (sym (stepped_words_are x.state.now s e x.carry.now x.chunk.now _ stays)); out_after = l.told ∙ rw e; carry_after = l.kept ∙ rw e }
+
+pub returns-else-step_at_once : goal.returns-else-step_at_once
+returns-else-step_at_once c = let at_once = c.step_at_once in
+    let undone : at_once.result ≡ false = c.if-step_at_once.false in
+    let u = rw undone at at_once.ensures in
+    rw (u.0, u.1) at c.full_step-then-is_usable.ensures

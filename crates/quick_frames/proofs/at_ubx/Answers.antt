@@ -1,0 +1,63 @@
+-- `quick_frames::at_ubx` meets its contract: a frame waits, lies on both sides, or its sum decides on one.
+use mathlib.Core.Path.{refl, ap, ◌∙◌}
+use mathlib.Core.Logic.{⊎_elim, inl, inr}
+use Prim.Native.Nat.{◌+◌}
+use native.Mathlib.Omega.{arith}
+use lib.ListN.{get_or}
+use borrow.Author.Tests.{eqb-true, eqb-false}
+use Rattle.claim.specs.declared.Kind.TheVariants.{Ubx}
+use Rattle.framer.specs.Step.{say}
+use Rattle.quick_words.proofs.Written.{leaves_by}
+use Rattle.quick_frames.proofs.Ways.{first_short, on_first, waits, decides_here, sum_right, sum_wrong}
+use borrow.Author.Rules.{rules}
+use Rattle.quick_frames.proofs.at_ubx.Goals as goal
+
+pub returns-then-w-n : goal.returns-then-w-n
+returns-then-w-n c = let start = c in
+    let x = start.args in let h = start.requires in
+    let l = c.if-w-n.true in
+    let room = c.if-s-w.false in
+    leaves_by _ _ _ _ _ _
+    (waits x.s x.carry.now x.chunk.now h.ready (Ubx x.class x.id x.n) h.chunk_value (omega arith) (omega arith))
+    (c.wait.ensures x.carry.now x.chunk.now)
+
+pub ubx_across-requires : goal.ubx_across-requires
+ubx_across-requires c = let start = c in
+    let x = start.args in let h = start.requires in let r = h.ready in
+    let l = c.if-w-n.false in
+    let f = c.if-f-n.true in
+    let g = first_short x.s x.carry.now x.chunk.now r _ c.first_of-f.ensures in
+    record { ready = r; chunk_value = h.chunk_value; s_bound = (omega arith, omega arith) }
+
+pub hand-requires : goal.hand-requires
+hand-requires c = let start = c in
+    let x = start.args in let r = start.requires.ready in
+    let l = c.if-w-n.false in
+    let f = c.if-f-n.false in
+    let side = on_first x.s x.carry.now x.chunk.now r _ c.first_of-f.ensures (Ubx x.class x.id x.n) (omega arith) in
+    record { before_value = (refl, refl); off_le_live = (r.sane.offs, (r.sane.parts, r.counts)); kind_bound = (omega arith, side) }
+
+pub returns-then-y-got : goal.returns-then-y-got
+returns-then-y-got c = let start = c in
+    let x = start.args in let h = start.requires in let r = h.ready in
+    let l = c.if-w-n.false in
+    let m = c.if-f-n.false in
+    let first = c.first_of-f in let f = first.result.now in
+    let new = c.new.ensures in
+    let sum = c.update-got in
+    leaves_by _ _ _ _ _ _
+    (decides_here x.s x.carry.now x.chunk.now r x.class x.id x.n h.chunk_value f first.ensures (omega arith) sum.result (rw new at sum.ensures)
+    ∙ ap (say x.s x.carry.now x.chunk.now) (sum_right (get_or f (6 + x.n) 0) (get_or f (6 + x.n + 1) 0) sum.result x.class x.id x.n c.if-x-got.true (eqb-true _ _ c.if-y-got.true)))
+    (c.hand.ensures x.carry.now x.chunk.now)
+
+pub returns : goal.returns
+returns c = let start = c in
+    let x = start.args in let h = start.requires in let r = h.ready in
+    let l = c.if-w-n.false in
+    let m = c.if-f-n.false in
+    let first = c.first_of-f in let f = first.result.now in
+    let new = c.new.ensures in let sum = c.update-got in
+    leaves_by _ _ _ _ _ _
+    (decides_here x.s x.carry.now x.chunk.now r x.class x.id x.n h.chunk_value f first.ensures (omega arith) sum.result (rw new at sum.ensures)
+    ∙ ap (say x.s x.carry.now x.chunk.now) (sum_wrong (get_or f (6 + x.n) 0) (get_or f (6 + x.n + 1) 0) sum.result x.class x.id x.n (⊎_elim (λ z. inr (eqb-false _ _ z.2.left)) (λ z. inl z.left) c.if-x-got.branch)))
+    (c.tell_wrong.ensures x.carry.now x.chunk.now)

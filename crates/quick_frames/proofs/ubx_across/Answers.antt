@@ -1,0 +1,46 @@
+-- `quick_frames::ubx_across` meets its contract: the sum over both sides decides.
+use mathlib.Core.Path.{refl, ap, ◌∙◌}
+use mathlib.Core.Logic.{⊎_elim, inl, inr}
+use native.Mathlib.Omega.{arith}
+use borrow.Author.Tests.{not-false, eqb-true, eqb-false}
+use Rattle.claim.specs.declared.Kind.TheVariants.{Ubx}
+use Rattle.framer.specs.Step.{say}
+use Rattle.quick_words.proofs.Written.{leaves_by}
+use Rattle.quick_frames.proofs.Ways.{decides_across, sum_right, sum_wrong}
+use borrow.Author.Rules.{rules}
+use Rattle.quick_frames.proofs.ubx_across.Goals as goal
+
+pub bring-requires : goal.bring-requires
+bring-requires c = let h = c.requires in let l = h.s_bound in
+    let room = c.has_room.ensures (not-false _ c.if-not-has_room.false) in
+    record { before_value = (refl, refl); ready = h.ready; kind_bound = (omega arith, (room.0, (omega arith, room.1))) }
+
+pub returns-then-y-got : goal.returns-then-y-got
+returns-then-y-got c = let start = c in
+    let x = start.args in let h = start.requires in let r = h.ready in let o = r.sane.lives in let l = h.s_bound in
+    let room = c.has_room.ensures (not-false _ c.if-not-has_room.false) in
+    let p = room.0 in let q = room.1 in
+    let sum = c.sum_of-got in
+    let at = c.byte_at-x in
+    let next = c.byte_at-y in
+    leaves_by _ _ _ _ _ _
+    (decides_across x.s x.carry.now x.chunk.now r x.class x.id x.n h.chunk_value at.result next.result sum.result (omega arith) (omega arith) at.ensures next.ensures sum.ensures
+    ∙ ap (say x.s x.carry.now x.chunk.now) (sum_right at.result next.result sum.result x.class x.id x.n c.if-x-got.true (eqb-true _ _ c.if-y-got.true)))
+    c.bring.ensures
+
+pub tell_wrong-requires : goal.tell_wrong-requires
+tell_wrong-requires c = let h = c.requires in let r = h.ready in let l = h.s_bound in let w = r.counts in
+    (r.sane.offs, (r.sane.parts, (omega arith, omega arith)))
+
+pub returns : goal.returns
+returns c = let start = c in
+    let x = start.args in let h = start.requires in let r = h.ready in let o = r.sane.lives in let l = h.s_bound in
+    let room = c.has_room.ensures (not-false _ c.if-not-has_room.false) in
+    let p = room.0 in let q = room.1 in
+    let sum = c.sum_of-got in
+    let at = c.byte_at-x in
+    let next = c.byte_at-y in
+    leaves_by _ _ _ _ _ _
+    (decides_across x.s x.carry.now x.chunk.now r x.class x.id x.n h.chunk_value at.result next.result sum.result (omega arith) (omega arith) at.ensures next.ensures sum.ensures
+    ∙ ap (say x.s x.carry.now x.chunk.now) (sum_wrong at.result next.result sum.result x.class x.id x.n (⊎_elim (λ z. inr (eqb-false _ _ z.2.left)) (λ z. inl z.left) c.if-x-got.branch)))
+    (c.tell_wrong.ensures x.carry.now x.chunk.now)

@@ -1,0 +1,30 @@
+-- `quick_step::at_front` meets its contract: a head that one side has claims a frame, whatever stands behind that side.
+use Rattle.quick_words.proofs.Written.{leaves_by}
+use Rattle.quick_frames.proofs.Ways.{first_begins, first_none, first_sync}
+use Rattle.quick_step.proofs.Noise.{empty_waits}
+use borrow.Author.Rules.{rules}
+use Rattle.quick_step.proofs.at_front.Goals as goal
+
+pub returns-then-f-eq0 : goal.returns-then-f-eq0
+returns-then-f-eq0 c = let start = c in
+    let x = start.args in let r = start.requires.ready in
+    let empty = first_none x.s x.carry.now x.chunk.now r _ c.first_of-f.ensures c.if-f-eq0.true in
+    leaves_by _ _ _ _ _ _ (empty_waits x.s x.carry.now x.chunk.now r empty) (c.wait.ensures x.carry.now x.chunk.now)
+
+pub at_ubx-requires : goal.at_ubx-requires
+at_ubx-requires c = let start = c in
+    let x = start.args in let p = start.requires in let r = p.ready in
+    let first = c.first_of-f.ensures in
+    let b = first_begins x.s x.carry.now x.chunk.now r _ first in
+    let sync = first_sync x.s x.carry.now x.chunk.now r _ first c.if-f-eq0.false p.fact in
+    let h = rw c.in-Ubx.is at (c.head_of-head.ensures x.s.mode sync p.mode_value) in
+    record { ready = r; chunk_value = h.2 x.s.cap _ _ _ b; n_bound = h.1 }
+
+pub at_rtcm-requires : goal.at_rtcm-requires
+at_rtcm-requires c = let start = c in
+    let x = start.args in let p = start.requires in let r = p.ready in
+    let first = c.first_of-f.ensures in
+    let b = first_begins x.s x.carry.now x.chunk.now r _ first in
+    let sync = first_sync x.s x.carry.now x.chunk.now r _ first c.if-f-eq0.false p.fact in
+    let h = rw c.in-Rtcm.is at (c.head_of-head.ensures x.s.mode sync p.mode_value) in
+    record { ready = r; chunk_value = h.2 x.s.cap _ _ _ b; n_bound = h.1 }

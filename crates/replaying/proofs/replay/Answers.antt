@@ -1,0 +1,27 @@
+-- `replaying::replay` meets its contract: the same is said exactly of a call that hands back what its record says.
+use Rattle.calls.specs.Made.{made}
+use Rattle.replaying.proofs.Laws.{Judged, judge, turn_same, turn_differs}
+use borrow.Author.Rules.{rules}
+use Rattle.replaying.proofs.replay.Goals as goal
+
+-- where all three parts are compared
+abbrev st : tie.After-first2 → tie.Start
+st c = c
+
+judged : (c : tie.After-first2) → Judged c.first-outcome.result (st c).args.call (st c).args.words.now (st c).args.carry.now (st c).args.chunk.now (st c).args.recorded.now
+judged c =
+    let s = c.state_before-state.ensures in
+    let made = c.make-out.ensures in
+    judge
+    (record { is_out = rw s at made.value; is_state = rw s at made.state_after; is_left = rw s at made.carry_after })
+    c.first-outcome.ensures
+    c.first.ensures
+    (rw c.out.ensures at c.out-in_out.ensures)
+    (rw c.state_after.ensures at c.state-in_state.ensures)
+    c.carry-in_carry.ensures
+
+pub returns-in-Same : goal.returns-in-Same
+returns-in-Same c = turn_same (judged c) c.in-Same.is
+
+pub returns-in-Differs : goal.returns-in-Differs
+returns-in-Differs c = turn_differs (judged c) _ c.in-Differs.is

@@ -1,0 +1,18 @@
+-- `seek::glance_rtcm` meets its contract: a law for each way out.
+use mathlib.Core.Path.{sym, ap, ◌∙◌}
+use Rattle.look.specs.declared.Sight.TheVariants.{Say}
+use Rattle.seek.proofs.OneSide.{side_lacks_rtcm, side_hands_rtcm, side_fits_rtcm}
+use borrow.Author.Rules.{rules}
+use Rattle.seek.proofs.glance_rtcm.Goals as goal
+
+pub returns-then-w-size : goal.returns-then-w-size
+returns-then-w-size c = λ u W h. let x = c.args in
+    side_lacks_rtcm x.s.now W u x.w h x.parity x.cap c.requires c.rtcm_length-n.result c.rtcm_length-n.ensures (rw c.around.ensures.value at c.if-w-size.true) ∙ ap Say (rw (← c.around.ensures.value) (sym c.lacks-v.ensures))
+
+pub returns-then-s-size : goal.returns-then-s-size
+returns-then-s-size c = λ u W h. let x = c.args in let size = c.around.ensures.value in
+    rw c.if-parity.false (side_fits_rtcm x.s.now W u x.w h x.cap c.requires c.rtcm_length-n.result c.rtcm_length-n.ensures (rw (size, c.if-parity.false) at c.if-w-size.false) (rw (size, c.if-parity.false) at c.if-cap-size.false))
+
+pub returns : goal.returns
+returns c = λ u W h. let x = c.args in
+    rw c.if-parity.false (side_hands_rtcm x.s.now W u x.w h x.cap c.requires c.rtcm_length-n.result c.rtcm_length-n.ensures (rw (c.around.ensures.value, c.if-parity.false) at c.if-s-size.false))

@@ -1,0 +1,16 @@
+-- `seek::seek` meets its contract: what one side tells, turn by turn, and then both.
+use mathlib.Core.List.{◌++◌}
+use Prim.Native.Nat.{◌+◌, ◌-◌, ◌≤◌}
+use native.Mathlib.Omega.{arith}
+use lib.ListN.{length, length-append}
+use Rattle.seek.specs.Passed.{Passed, start}
+use Rattle.seek.proofs.Passed.{pass_noise, pass_turn}
+use Rattle.seek.proofs.OneSide.{first_long, told_there}
+use borrow.Author.Rules.{rules}
+use Rattle.seek.proofs.seek.Given as goal
+
+abbrev pub invariant-loop-skip : goal.invariant-loop-skip
+invariant-loop-skip l = (l.skip ≤ length l.a + length l.b) × Passed l.mode l.max l.cap (length l.a) (l.a ++ l.b) l.skip
+
+abbrev pub decreases-loop-skip : goal.decreases-loop-skip
+decreases-loop-skip l = length l.a + length l.b - l.skip

@@ -1,0 +1,10 @@
+-- `stamp_lines::totals` meets its contract: its pieces, one behind the other.
+use Rattle.std.proofs.Common.{◌≤◌, length, arith, rules}
+use Rattle.text.proofs.Laws.{behind}
+use Rattle.stamp_lines.proofs.totals.Goals as goal
+
+pub returns : goal.returns
+returns c =
+    let x = c.args in
+    let room : x.at ≤ length x.out.now = omega (arith, c.requires) in
+    behind room (behind room (behind room c.tallies-a.ensures.puts c.labelled-b.ensures.puts) c.labelled-c.ensures.puts) c.sized.ensures

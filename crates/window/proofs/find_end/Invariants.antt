@@ -1,0 +1,22 @@
+-- `window::find_end` meets its contract: no end mark begins before i, and where i is within the window a CR stands there.
+use mathlib.Core.Path.{◌≡◌, refl, sym, ◌∙◌}
+use mathlib.Core.Bool.{true}
+use mathlib.Core.List.{◌++◌}
+use Prim.Native.Nat.{suc, ◌+◌, ◌-◌, ◌≤◌, ◌<◌}
+use native.Mathlib.Numerals.{add-one}
+use native.Mathlib.Omega.{arith}
+use lib.ListN.{length, get_or, drop, length-append}
+use lib.Dec.{eqb}
+use borrow.Author.Tests.{eq-eqb, ne_eqb}
+use Rattle.window.specs.declared.Found.TheVariants.{Nothing}
+use Rattle.window.specs.EndMark.{end_mark}
+use Rattle.window.specs.Search.{is}
+use Rattle.window.proofs.Laws.{first_at, mark_on, mark_next, mark_here, mark_end}
+use borrow.Author.Rules.{rules}
+use Rattle.window.proofs.find_end.Given as goal
+
+abbrev pub invariant-loop-i : goal.invariant-loop-i
+invariant-loop-i l = (l.found ≡ Nothing) × ((l.i ≤ length l.a + length l.b) × ((end_mark 0 (l.a ++ l.b) ≡ end_mark l.i (drop l.i (l.a ++ l.b))) × (l.i < length (l.a ++ l.b) → eqb (get_or (l.a ++ l.b) l.i 0) 0x0D ≡ true)))
+
+abbrev pub decreases-loop-i : goal.decreases-loop-i
+decreases-loop-i l = length l.a + length l.b - l.i

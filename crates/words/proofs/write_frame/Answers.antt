@@ -1,0 +1,6 @@
+-- `words::write_frame` meets its contract.
+use borrow.Author.Rules.{rules}
+use Rattle.words.proofs.write_frame.Goals as goal
+
+pub returns : goal.returns
+returns c = rw c.side_no-side_word.ensures
