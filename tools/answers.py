@@ -125,7 +125,7 @@ class Names:
                 return [*new, *segs[len(old) :]]
         if segs[0] == "requires":
             pre = self.it.get("pre")
-            if pre and pre["fields"] and len(segs) > 1:
+            if pre and pre["fields"] and (len(segs) > 1 or len(pre["fields"]) == 1):
                 return ["requires", *self.clause(pre["fields"], segs[1:])]
             return segs
         if segs[0] in ("args", "ranges"):
@@ -135,7 +135,7 @@ class Names:
         if step is None:
             return segs
         rest = segs[1:]
-        if rest[:1] == ["ensures"] and step in self.clauses and len(rest) > 1:
+        if rest[:1] == ["ensures"] and step in self.clauses and (len(rest) > 1 or len(self.clauses[step]) == 1):
             rest = ["ensures", *self.clause(self.clauses[step], rest[1:])]
         return [step, *rest]
 

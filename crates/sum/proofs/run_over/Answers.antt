@@ -11,7 +11,7 @@ pub loop-i-preserved : goal.loop-i-preserved
 loop-i-preserved c = let at = c in
     let l = at.args.bytes.now in (
       omega arith,
-      rw (add-one, c.wrapping_add_u8-b.ensures, c.wrapping_add_u8-a.ensures) (
+      rw (add-one, c.wrapping_add_u8-b.ensures.value, c.wrapping_add_u8-a.ensures.value) (
           sym (sum_next (record { a = at.loop-i.a; b = at.loop-i.b }) l at.loop-i.i c.loop-i-test.true) ∙ at.loop-i.invariant.1
           ),
     )
