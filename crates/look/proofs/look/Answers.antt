@@ -19,14 +19,14 @@ pub returns-then-not-is_sync : goal.returns-then-not-is_sync
 returns-then-not-is_sync c = let x = c.args in
     let W = x.a.now ++ x.b.now in
     let h : 0 < length W = simp length-append (omega arith) in
-    sym (look_noise x.mode x.max x.cap (length x.a.now) W _ c.byte_at-x.ensures h (sym c.is_sync.ensures ∙ not-true _ c.if-not-is_sync.true))
+    sym (look_noise x.mode x.max x.cap (length x.a.now) W _ c.byte_at-x.ensures h (sym c.is_sync.ensures ∙ c.if-not-is_sync.true))
 
 pub returns-then-x : goal.returns-then-x
 unfolding pick
 returns-then-x c = let x = c.args in
     let W = x.a.now ++ x.b.now in
     let h : 0 < length W = simp length-append (omega arith) in
-    c.at_ubx.ensures ∙ sym (look_sync x.mode x.max x.cap (length x.a.now) W _ c.byte_at-x.ensures h (sym c.is_sync.ensures ∙ not-false _ c.if-not-is_sync.false)
+    c.at_ubx.ensures ∙ sym (look_sync x.mode x.max x.cap (length x.a.now) W _ c.byte_at-x.ensures h (sym c.is_sync.ensures ∙ c.if-not-is_sync.false)
     ∙ rw (eq-eqb _ _ c.if-x.true))
 
 pub returns-then-x-2 : goal.returns-then-x-2
@@ -34,7 +34,7 @@ unfolding pick
 returns-then-x-2 c = let x = c.args in
     let W = x.a.now ++ x.b.now in
     let h : 0 < length W = simp length-append (omega arith) in
-    c.at_rtcm-v.ensures ∙ rw c.has_parity.ensures (sym (look_sync x.mode x.max x.cap (length x.a.now) W _ c.byte_at-x.ensures h (sym c.is_sync.ensures ∙ not-false _ c.if-not-is_sync.false)
+    c.at_rtcm-v.ensures ∙ rw c.has_parity.ensures (sym (look_sync x.mode x.max x.cap (length x.a.now) W _ c.byte_at-x.ensures h (sym c.is_sync.ensures ∙ c.if-not-is_sync.false)
     ∙ rw (ne_eqb _ _ c.if-x.false, eq-eqb _ _ c.if-x-2.true)))
 
 pub returns : goal.returns
@@ -42,5 +42,5 @@ unfolding pick
 returns c = let x = c.args in
     let W = x.a.now ++ x.b.now in
     let h : 0 < length W = simp length-append (omega arith) in
-    c.at_nmea-v.ensures ∙ sym (look_sync x.mode x.max x.cap (length x.a.now) W _ c.byte_at-x.ensures h (sym c.is_sync.ensures ∙ not-false _ c.if-not-is_sync.false)
+    c.at_nmea-v.ensures ∙ sym (look_sync x.mode x.max x.cap (length x.a.now) W _ c.byte_at-x.ensures h (sym c.is_sync.ensures ∙ c.if-not-is_sync.false)
     ∙ rw (ne_eqb _ _ c.if-x.false, ne_eqb _ _ c.if-x-2.false))

@@ -54,7 +54,7 @@ bring-requires c = let start = c in
     let x = start.args in let r = start.requires.ready in
     let l = c.if-w-size.false in
     let a = leb-false (x.n + 3) (left_len x.s) c.if-size-left.false in
-    let room = c.has_room.ensures (not-false _ c.if-not-has_room.false) in
+    let room = c.has_room.ensures c.if-not-has_room.false in
     let all : 0 + (x.n + 3) ≤ width x.s = omega arith in
     let more : left_len x.s < 0 + (x.n + 3) = omega arith in
     record { before_value = (refl, refl); ready = r; kind_bound = (all, (room.0, (more, room.1))) }
@@ -63,7 +63,7 @@ pub returns : goal.returns
 returns c = let start = c in
     let x = start.args in let h = start.requires in let r = h.ready in let o = r.sane.lives in
     let l = c.if-w-size.false in
-    let room = c.has_room.ensures (not-false _ c.if-not-has_room.false) in
+    let room = c.has_room.ensures c.if-not-has_room.false in
     let p = room.0 in let q = room.1 in
     leaves_by _ _ _ _ _ _
     (judges_fitting x.s x.carry.now x.chunk.now r (Rtcm x.n false) h.chunk_value (omega arith) (omega arith)

@@ -12,13 +12,13 @@ use Rattle.quick_frames.proofs.ubx_across.Goals as goal
 
 pub bring-requires : goal.bring-requires
 bring-requires c = let h = c.requires in let l = h.s_bound in
-    let room = c.has_room.ensures (not-false _ c.if-not-has_room.false) in
+    let room = c.has_room.ensures c.if-not-has_room.false in
     record { before_value = (refl, refl); ready = h.ready; kind_bound = (omega arith, (room.0, (omega arith, room.1))) }
 
 pub returns-then-y-got : goal.returns-then-y-got
 returns-then-y-got c = let start = c in
     let x = start.args in let h = start.requires in let r = h.ready in let o = r.sane.lives in let l = h.s_bound in
-    let room = c.has_room.ensures (not-false _ c.if-not-has_room.false) in
+    let room = c.has_room.ensures c.if-not-has_room.false in
     let p = room.0 in let q = room.1 in
     let sum = c.sum_of-got in
     let at = c.byte_at-x in
@@ -35,7 +35,7 @@ tell_wrong-requires c = let h = c.requires in let r = h.ready in let l = h.s_bou
 pub returns : goal.returns
 returns c = let start = c in
     let x = start.args in let h = start.requires in let r = h.ready in let o = r.sane.lives in let l = h.s_bound in
-    let room = c.has_room.ensures (not-false _ c.if-not-has_room.false) in
+    let room = c.has_room.ensures c.if-not-has_room.false in
     let p = room.0 in let q = room.1 in
     let sum = c.sum_of-got in
     let at = c.byte_at-x in

@@ -7,19 +7,19 @@ use Rattle.stamp.proofs.in_range.Goals as goal
 
 pub returns-then-not-is_date : goal.returns-then-not-is_date
 unfolding in_range
-returns-then-not-is_date c = rw (sym c.is_date.ensures ∙ not-true _ c.if-not-is_date.true)
+returns-then-not-is_date c = rw (sym c.is_date.ensures ∙ c.if-not-is_date.true)
 
 pub returns-then-not-is_time : goal.returns-then-not-is_time
 unfolding in_range
 returns-then-not-is_time c = rw (
-  sym c.is_date.ensures ∙ not-false _ c.if-not-is_date.false,
-  sym c.is_time.ensures ∙ not-true _ c.if-not-is_time.true,
+  sym c.is_date.ensures ∙ c.if-not-is_date.false,
+  sym c.is_time.ensures ∙ c.if-not-is_time.true,
 )
 
 pub returns : goal.returns
 unfolding in_range
 returns c = rw (
-  sym c.is_date.ensures ∙ not-false _ c.if-not-is_date.false,
-  sym c.is_time.ensures ∙ not-false _ c.if-not-is_time.false,
+  sym c.is_date.ensures ∙ c.if-not-is_date.false,
+  sym c.is_time.ensures ∙ c.if-not-is_time.false,
 )
     c.within.ensures

@@ -12,17 +12,17 @@ use borrow.Author.Rules.{rules}
 use Rattle.stamp.proofs.read.Goals as goal
 
 this : (c : tie.Else1) → let x = c.args in is_this x.class x.id (length x.payload.now) ≡ true
-this c = sym c.is_this.ensures ∙ not-false _ c.if-not-is_this.false
+this c = sym c.is_this.ensures ∙ c.if-not-is_this.false
 
 valid : (c : tie.Else2) → is_valid (fields_of c.args.payload.now) ≡ true
-valid c = sym (c.is_valid.ensures ∙ ap is_valid c.fields_of-f.ensures) ∙ not-false _ c.if-not-is_valid.false
+valid c = sym (c.is_valid.ensures ∙ ap is_valid c.fields_of-f.ensures) ∙ c.if-not-is_valid.false
 
 in_range : (c : tie.Else3) → in_range (fields_of c.args.payload.now) ≡ true
-in_range c = sym (c.in_range.ensures ∙ ap in_range c.fields_of-f.ensures) ∙ not-false _ c.if-not-in_range.false
+in_range c = sym (c.in_range.ensures ∙ ap in_range c.fields_of-f.ensures) ∙ c.if-not-in_range.false
 
 pub returns-then-not-is_this : goal.returns-then-not-is_this
 returns-then-not-is_this c = let x = c.args in
-    let other = sym c.is_this.ensures ∙ not-true _ c.if-not-is_this.true in
+    let other = sym c.is_this.ensures ∙ c.if-not-is_this.true in
     is_reads _ _ (c.refused.ensures ∙ sym (read_other x.clock x.class x.id x.payload.now other))
 
 pub fields_of-f-requires : goal.fields_of-f-requires
@@ -30,18 +30,18 @@ fields_of-f-requires c = let x = c.args in this_length x.class x.id _ (this c)
 
 pub returns-then-not-is_valid : goal.returns-then-not-is_valid
 returns-then-not-is_valid c = let x = c.args in
-    let invalid = sym (c.is_valid.ensures ∙ ap is_valid c.fields_of-f.ensures) ∙ not-true _ c.if-not-is_valid.true in
+    let invalid = sym (c.is_valid.ensures ∙ ap is_valid c.fields_of-f.ensures) ∙ c.if-not-is_valid.true in
     is_reads _ _ (c.refused-then-not-is_valid.ensures ∙ sym (read_invalid x.clock x.class x.id x.payload.now (this c) invalid))
 
 pub returns-then-not-in_range : goal.returns-then-not-in_range
 returns-then-not-in_range c = let x = c.args in
     let past = c in
-    let outside = sym (c.in_range.ensures ∙ ap in_range past.fields_of-f.ensures) ∙ not-true _ c.if-not-in_range.true in
+    let outside = sym (c.in_range.ensures ∙ ap in_range past.fields_of-f.ensures) ∙ c.if-not-in_range.true in
     is_reads _ _
     (c.refused-then-not-in_range.ensures ∙ sym (read_outside x.clock x.class x.id x.payload.now (this past) (valid past) outside))
 
 pub stamp_of-requires : goal.stamp_of-requires
-stamp_of-requires c = sym c.in_range.ensures ∙ not-false _ c.if-not-in_range.false
+stamp_of-requires c = sym c.in_range.ensures ∙ c.if-not-in_range.false
 
 pub returns : goal.returns
 returns c = let x = c.args in
