@@ -1,10 +1,8 @@
 -- `carry::drain` meets its contract: after i turns the first i bytes are the drained ones, and the others as they were.
 use mathlib.Core.Path.{◌≡◌, refl, sym, ◌∙◌}
-use mathlib.Core.List.{◌++◌}
-use Prim.Native.Nat.{◌+◌, ◌-◌, ◌≤◌}
+use Prim.Native.Nat.{◌+◌, ◌-◌}
 use native.Mathlib.Omega.{arith}
-use lib.ListN.{length, take, drop, get_or, length-set}
-use borrow.Author.Rules.{rules}
+use lib.ListN.{get_or, length-set}
 use Rattle.carry.proofs.Laws.{move_turn, drain_all, drain_none, drain_ends}
 use Rattle.carry.proofs.drain.Goals as goal
 

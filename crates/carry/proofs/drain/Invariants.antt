@@ -1,11 +1,8 @@
 -- `carry::drain` meets its contract: after i turns the first i bytes are the drained ones, and the others as they were.
-use mathlib.Core.Path.{◌≡◌, refl, sym, ◌∙◌}
+use mathlib.Core.Path.{◌≡◌}
 use mathlib.Core.List.{◌++◌}
-use Prim.Native.Nat.{◌+◌, ◌-◌, ◌≤◌}
-use native.Mathlib.Omega.{arith}
-use lib.ListN.{length, take, drop, get_or, length-set}
-use borrow.Author.Rules.{rules}
-use Rattle.carry.proofs.Laws.{move_turn, drain_all, drain_none, drain_ends}
+use Prim.Native.Nat.{◌-◌, ◌≤◌}
+use lib.ListN.{length, take, drop}
 use Rattle.carry.proofs.drain.Given as goal
 
 abbrev pub invariant-loop-i : goal.invariant-loop-i

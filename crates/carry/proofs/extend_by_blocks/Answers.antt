@@ -1,10 +1,8 @@
 -- `carry::extend_by_blocks` meets its contract: the first `copied` bytes have been copied, and a turn's block goes on from there.
 use mathlib.Core.Path.{◌≡◌, refl, ◌∙◌}
-use mathlib.Core.Logic.{⊎_elim}
-use Prim.Native.Nat.{◌+◌, ◌-◌, ◌≤◌, ◌<◌}
+use Prim.Native.Nat.{◌+◌, ◌≤◌, ◌<◌}
 use native.Mathlib.Omega.{arith}
-use lib.ListN.{length}
-use lib.Seq.{paste, paste-zero}
+use lib.Seq.{paste-zero}
 use borrow.Author.Rules.{rules}
 use Rattle.carry.proofs.Laws.{paste_block}
 use Rattle.carry.proofs.extend_by_blocks.Goals as goal
@@ -20,7 +18,7 @@ loop-copied-preserved c =
     let start = c.if-last-copied.start in
     -- the block starts no later than the copy ends, and ends later, but not behind n
     let b : (start ≤ at.copied) × ((at.copied < start + 32) × (start + 32 ≤ x.n)) =
-      elim c.if-last-copied.branch [ then-last-copied w ↦ omega arith | else-last-copied w ↦ omega arith ] in (
+    elim c.if-last-copied.branch [ then-last-copied w ↦ omega arith | else-last-copied w ↦ omega arith ] in (
       omega arith,
       (
         rw (c.put_block.ensures, c.block_at-block.ensures, at.invariant.1.0)

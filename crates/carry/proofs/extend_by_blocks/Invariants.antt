@@ -1,12 +1,8 @@
 -- `carry::extend_by_blocks` meets its contract: the first `copied` bytes have been copied, and a turn's block goes on from there.
-use mathlib.Core.Path.{◌≡◌, refl, ◌∙◌}
-use mathlib.Core.Logic.{⊎_elim}
-use Prim.Native.Nat.{◌+◌, ◌-◌, ◌≤◌, ◌<◌}
-use native.Mathlib.Omega.{arith}
+use mathlib.Core.Path.{◌≡◌}
+use Prim.Native.Nat.{◌-◌, ◌≤◌}
 use lib.ListN.{length}
-use lib.Seq.{paste, paste-zero}
-use borrow.Author.Rules.{rules}
-use Rattle.carry.proofs.Laws.{paste_block}
+use lib.Seq.{paste}
 use Rattle.carry.proofs.extend_by_blocks.Given as goal
 
 abbrev pub invariant-loop-copied : goal.invariant-loop-copied

@@ -1,11 +1,10 @@
 -- `carry::extend_by_bytes` meets its contract: after i turns the first i bytes have been copied.
 use mathlib.Core.Path.{◌≡◌, refl, ◌∙◌}
-use Prim.Native.Nat.{◌+◌, ◌-◌, ◌≤◌}
+use Prim.Native.Nat.{◌+◌}
 use native.Mathlib.Numerals.{add-one}
 use native.Mathlib.Omega.{arith}
-use lib.ListN.{length, get_or, length-set}
-use lib.Seq.{paste, paste-zero, paste-suc}
-use borrow.Author.Rules.{rules}
+use lib.ListN.{get_or, length-set}
+use lib.Seq.{paste-zero, paste-suc}
 use Rattle.carry.proofs.extend_by_bytes.Goals as goal
 
 pub loop-i-init : goal.loop-i-init

@@ -1,11 +1,10 @@
 -- `carry::put_block` meets its contract: after j turns the first j bytes of the block have been written.
 use mathlib.Core.Path.{◌≡◌, refl, ◌∙◌}
-use Prim.Native.Nat.{◌+◌, ◌-◌, ◌≤◌}
+use Prim.Native.Nat.{◌+◌}
 use native.Mathlib.Numerals.{add-one}
 use native.Mathlib.Omega.{arith}
 use lib.ListN.{length, get_or, length-set}
-use lib.Seq.{paste, paste-zero, paste-suc}
-use borrow.Author.Rules.{rules}
+use lib.Seq.{paste-zero, paste-suc}
 use Rattle.carry.proofs.put_block.Goals as goal
 
 pub loop-j-init : goal.loop-j-init

@@ -1,11 +1,8 @@
 -- `carry::put_block` meets its contract: after j turns the first j bytes of the block have been written.
-use mathlib.Core.Path.{◌≡◌, refl, ◌∙◌}
-use Prim.Native.Nat.{◌+◌, ◌-◌, ◌≤◌}
-use native.Mathlib.Numerals.{add-one}
-use native.Mathlib.Omega.{arith}
-use lib.ListN.{length, get_or, length-set}
-use lib.Seq.{paste, paste-zero, paste-suc}
-use borrow.Author.Rules.{rules}
+use mathlib.Core.Path.{◌≡◌}
+use Prim.Native.Nat.{◌-◌, ◌≤◌}
+use lib.ListN.{length}
+use lib.Seq.{paste}
 use Rattle.carry.proofs.put_block.Given as goal
 
 abbrev pub invariant-loop-j : goal.invariant-loop-j

@@ -2,7 +2,6 @@
 use Prim.Native.Nat.{◌-◌}
 use native.Mathlib.Omega.{arith}
 use borrow.Author.Tests.{lt-leb, le-leb, lt-ltb, le-ltb}
-use borrow.Author.Rules.{rules}
 use Rattle.claim.proofs.can_hand.Goals as goal
 
 pub returns-then-w-d : goal.returns-then-w-d

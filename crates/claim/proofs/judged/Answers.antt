@@ -3,7 +3,6 @@ use mathlib.Core.Path.{◌∙◌}
 use mathlib.Core.Bool.{and-false}
 use borrow.Author.Tests.{eq-eqb, ne_eqb}
 use Rattle.window.specs.Pick.{pick}
-use borrow.Author.Rules.{rules}
 use Rattle.claim.proofs.judged.Goals as goal
 use Rattle.claim.proofs.judged.Goals.{else-a-got-via-then-a-got+else-b-got, else-a-got-via-else-a-got}
 

@@ -1,6 +1,5 @@
 -- `claim::size` meets its contract.
 use native.Mathlib.Omega.{arith}
-use borrow.Author.Rules.{rules}
 use Rattle.claim.proofs.size.Goals as goal
 
 pub overflow_add-result : goal.overflow_add-result

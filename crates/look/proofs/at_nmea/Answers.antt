@@ -7,7 +7,6 @@ use lib.ListN.{length, length-append}
 use Rattle.window.specs.declared.Found.TheVariants.{At, Nothing}
 use Rattle.window.proofs.Laws.{mark_within}
 use Rattle.look.proofs.Rules.{nmea_short, nmea_long}
-use borrow.Author.Rules.{rules}
 use Rattle.look.proofs.at_nmea.Goals as goal
 
 pub returns-then-w-lt-NMEA_MIN_BUFFER_SIZE : goal.returns-then-w-lt-NMEA_MIN_BUFFER_SIZE

@@ -11,7 +11,6 @@ use Rattle.claim.specs.Verdicts.{can_hand}
 use Rattle.look.specs.declared.Sight.TheVariants.{Say}
 use Rattle.look.specs.Rules.{claim, look_rtcm}
 use Rattle.look.proofs.Rules.{hand_whole, rtcm_short, rtcm_claims, claim_fits, claim_lacks}
-use borrow.Author.Rules.{rules}
 use Rattle.look.proofs.at_rtcm.Goals as goal
 
 pub returns-then-w-lt-RTCM_HEADER_SIZE : goal.returns-then-w-lt-RTCM_HEADER_SIZE

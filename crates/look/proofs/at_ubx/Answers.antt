@@ -5,7 +5,6 @@ use Prim.Native.Nat.{◌<◌, ◌≤◌}
 use native.Mathlib.Omega.{arith}
 use lib.ListN.{length, get_or, length-append}
 use Rattle.look.proofs.Rules.{ubx_short, ubx_other, ubx_headless, ubx_over, ubx_claims}
-use borrow.Author.Rules.{rules}
 use Rattle.look.proofs.at_ubx.Goals as goal
 
 pub returns-then-w-lt-UBX_SYNC_SIZE : goal.returns-then-w-lt-UBX_SYNC_SIZE

@@ -4,10 +4,9 @@ use mathlib.Core.List.{◌++◌}
 use Prim.Native.Nat.{◌<◌}
 use native.Mathlib.Omega.{arith}
 use lib.ListN.{length, length-append}
-use borrow.Author.Tests.{eq-eqb, ne_eqb, not-true, not-false}
+use borrow.Author.Tests.{eq-eqb, ne_eqb}
 use Rattle.window.specs.Pick.{pick}
 use Rattle.look.proofs.Rules.{look_empty, look_noise, look_sync}
-use borrow.Author.Rules.{rules}
 use Rattle.look.proofs.look.Goals as goal
 
 pub returns-then-a-b-eq0 : goal.returns-then-a-b-eq0

@@ -4,7 +4,6 @@ use Prim.Native.Nat.{◌<◌, ◌≤◌}
 use native.Mathlib.Omega.{arith}
 use lib.ListN.{length, length-append}
 use Rattle.look.proofs.Rules.{end_later, end_full, end_keep}
-use borrow.Author.Rules.{rules}
 use Rattle.look.proofs.no_end.Goals as goal
 
 pub returns-then-find_sync-w : goal.returns-then-find_sync-w

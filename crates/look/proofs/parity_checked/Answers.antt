@@ -2,7 +2,6 @@
 use mathlib.Core.Path.{sym, ◌∙◌}
 use mathlib.Core.List.{◌++◌}
 use Rattle.look.proofs.Rules.{judge_parity_is}
-use borrow.Author.Rules.{rules}
 use Rattle.look.proofs.parity_checked.Goals as goal
 
 pub returns : goal.returns

@@ -1,5 +1,5 @@
 -- `look::rtcm_judged` meets its contract.
-use mathlib.Core.Path.{sym, ◌∙◌}
+use mathlib.Core.Path.{sym}
 use Rattle.look.proofs.Rules.{judge_bare}
 use Rattle.look.proofs.rtcm_judged.Goals as goal
 

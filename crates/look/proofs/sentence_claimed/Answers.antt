@@ -4,7 +4,6 @@ use mathlib.Core.List.{◌++◌}
 use Rattle.claim.specs.declared.Kind.TheVariants.{Sentence}
 use Rattle.look.specs.declared.Sight.TheVariants.{Say}
 use Rattle.look.proofs.Rules.{claim_fits, claim_lacks, judge_sentence}
-use borrow.Author.Rules.{rules}
 use Rattle.look.proofs.sentence_claimed.Goals as goal
 
 pub returns-then-can_hand : goal.returns-then-can_hand

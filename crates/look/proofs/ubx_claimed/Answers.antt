@@ -6,7 +6,6 @@ use lib.ListN.{length}
 use Rattle.claim.specs.declared.Kind.TheVariants.{Ubx}
 use Rattle.look.specs.declared.Sight.TheVariants.{Say}
 use Rattle.look.proofs.Rules.{hand_whole, claim_fits, claim_lacks}
-use borrow.Author.Rules.{rules}
 use Rattle.look.proofs.ubx_claimed.Goals as goal
 
 pub ubx_judged-requires : goal.ubx_judged-requires

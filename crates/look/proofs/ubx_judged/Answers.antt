@@ -2,7 +2,6 @@
 use mathlib.Core.Path.{sym, ◌∙◌}
 use mathlib.Core.List.{◌++◌}
 use Rattle.look.proofs.Rules.{judged}
-use borrow.Author.Rules.{rules}
 use Rattle.look.proofs.ubx_judged.Goals as goal
 
 pub returns : goal.returns

@@ -1,13 +1,8 @@
 -- `parity::run` meets its contract: what is left, run on from the parity so far, is the whole.
-use mathlib.Core.Path.{◌≡◌, sym, ap, ◌∙◌}
-use Prim.Native.Nat.{ℕ, ◌≤◌, ◌<◌, ◌-◌, ◌^◌}
-use native.Mathlib.Omega.{arith}
-use native.Mathlib.Numerals.{add-one}
-use lib.ListN.{length, get_or, drop}
-use lib.Bits.{and_mask, mask_lt}
-use borrow.Author.Rules.{rules}
+use mathlib.Core.Path.{◌≡◌}
+use Prim.Native.Nat.{◌≤◌, ◌<◌, ◌-◌, ◌^◌}
+use lib.ListN.{length, drop}
 use Rattle.parity.specs.Parity.{parity_on}
-use Rattle.parity.proofs.Laws.{next_lt, on_low, on_next, on_past, top_lt, index_lt, step}
 use Rattle.parity.proofs.run.Given as goal
 
 abbrev pub invariant-loop-i : goal.invariant-loop-i

@@ -1,6 +1,5 @@
 -- `parity::update` meets its contract: that the table is right is computed here, over all entries.
 use mathlib.Core.Path.{refl}
-use borrow.Author.Rules.{rules}
 use Rattle.parity.specs.Parity.{bits, bits_of, reduce, divide, parity_of, remainders_from}
 use Rattle.parity.proofs.Laws.{on_none}
 use Rattle.parity.proofs.update.Goals as goal

@@ -3,10 +3,8 @@ use mathlib.Core.Path.{sym, ◌∙◌}
 use Prim.Native.Nat.{◌<◌}
 use native.Mathlib.Omega.{arith}
 use lib.ListN.{length}
-use borrow.Author.Tests.{not-true, not-false}
 use Rattle.look.proofs.Rules.{look_noise}
 use Rattle.seek.proofs.OneSide.{begins_long, begins_at, ruled_ubx, ruled_rtcm}
-use borrow.Author.Rules.{rules}
 use Rattle.seek.proofs.glance.Goals as goal
 
 pub returns-then-not-is_sync : goal.returns-then-not-is_sync

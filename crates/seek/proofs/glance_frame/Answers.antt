@@ -2,7 +2,6 @@
 use mathlib.Core.Path.{sym, ap, ◌∙◌}
 use Rattle.look.specs.declared.Sight.TheVariants.{Say}
 use Rattle.seek.proofs.OneSide.{frame_lacks, frame_judged, frame_both}
-use borrow.Author.Rules.{rules}
 use Rattle.seek.proofs.glance_frame.Goals as goal
 
 pub returns-then-w-n : goal.returns-then-w-n

@@ -2,7 +2,6 @@
 use mathlib.Core.Path.{sym, ap, ◌∙◌}
 use Rattle.look.specs.declared.Sight.TheVariants.{Say}
 use Rattle.seek.proofs.OneSide.{side_lacks_rtcm, side_hands_rtcm, side_fits_rtcm}
-use borrow.Author.Rules.{rules}
 use Rattle.seek.proofs.glance_rtcm.Goals as goal
 
 pub returns-then-w-size : goal.returns-then-w-size

@@ -1,5 +1,4 @@
 -- `seek::glance_ubx` meets its contract: what the head tells.
-use borrow.Author.Rules.{rules}
 use Rattle.seek.proofs.glance_ubx.Goals as goal
 
 pub glance_frame-requires : goal.glance_frame-requires

@@ -5,7 +5,6 @@ use native.Mathlib.Omega.{arith}
 use Rattle.look.specs.Rules.{Look, look_ubx}
 use Rattle.look.specs.Moves.{settled, step_move}
 use Rattle.seek.proofs.OneSide.{ruled_ubx, ruled_rtcm, claims_rtcm, heads_by}
-use borrow.Author.Rules.{rules}
 use Rattle.seek.proofs.head_of.Goals as goal
 
 pub returns-then-x : goal.returns-then-x

@@ -4,7 +4,6 @@ use Prim.Native.Nat.{◌-◌, min}
 use native.Mathlib.Omega.{arith}
 use lib.ListN.{length, length-drop}
 use Rattle.window.proofs.Laws.{from, drop_two}
-use borrow.Author.Rules.{rules}
 use Rattle.seek.proofs.look_at.Goals as goal
 
 pub returns : goal.returns

@@ -1,12 +1,8 @@
 -- `seek::seek` meets its contract: what one side tells, turn by turn, and then both.
 use mathlib.Core.List.{◌++◌}
 use Prim.Native.Nat.{◌+◌, ◌-◌, ◌≤◌}
-use native.Mathlib.Omega.{arith}
-use lib.ListN.{length, length-append}
-use Rattle.seek.specs.Passed.{Passed, start}
-use Rattle.seek.proofs.Passed.{pass_noise, pass_turn}
-use Rattle.seek.proofs.OneSide.{first_long, told_there}
-use borrow.Author.Rules.{rules}
+use lib.ListN.{length}
+use Rattle.seek.specs.Passed.{Passed}
 use Rattle.seek.proofs.seek.Given as goal
 
 abbrev pub invariant-loop-skip : goal.invariant-loop-skip

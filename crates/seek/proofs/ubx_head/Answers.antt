@@ -4,7 +4,6 @@ use native.Mathlib.Omega.{arith}
 use Rattle.look.specs.Rules.{Look}
 use Rattle.look.specs.Moves.{settled}
 use Rattle.seek.proofs.OneSide.{side_other, side_over, claims}
-use borrow.Author.Rules.{rules}
 use Rattle.seek.proofs.ubx_head.Goals as goal
 
 pub returns-then-s-ne-UBX_SYNC_CHAR_2 : goal.returns-then-s-ne-UBX_SYNC_CHAR_2

@@ -1,7 +1,6 @@
 -- `sum::run_over` meets its contract: what is left to sum, run on from the sums so far, is the whole.
-use Rattle.std.proofs.Common.{◌≡◌, ◌-◌, ◌≤◌, length, drop, sym, refl, ◌∙◌, add-one, arith, rules}
+use Rattle.std.proofs.Common.{◌≡◌, ◌-◌, ◌≤◌, length, drop}
 use Rattle.sum.specs.Sum.{sum_on}
-use Rattle.sum.proofs.Laws.{sum_next, sum_end}
 use Rattle.sum.proofs.run_over.Given as goal
 
 abbrev pub invariant-loop-i : goal.invariant-loop-i

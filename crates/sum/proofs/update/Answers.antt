@@ -1,6 +1,5 @@
 -- `sum::update` meets its contract: what is left to sum, run on from the sums so far, is the whole.
-use Rattle.std.proofs.Common.{◌≡◌, ◌+◌, ◌-◌, ◌≤◌, length, drop, refl, ◌∙◌, arith, rules}
-use Rattle.sum.specs.Sum.{sum_on}
+use Rattle.std.proofs.Common.{◌≡◌, ◌+◌, ◌-◌, refl, ◌∙◌, arith}
 use Rattle.sum.proofs.Laws.{sum_block, rest_is}
 use Rattle.sum.proofs.update.Goals as goal
 

@@ -1,7 +1,6 @@
 -- `sum::update` meets its contract: what is left to sum, run on from the sums so far, is the whole.
-use Rattle.std.proofs.Common.{◌≡◌, ◌+◌, ◌-◌, ◌≤◌, length, drop, refl, ◌∙◌, arith, rules}
+use Rattle.std.proofs.Common.{◌≡◌, ◌-◌, ◌≤◌, length, drop}
 use Rattle.sum.specs.Sum.{sum_on}
-use Rattle.sum.proofs.Laws.{sum_block, rest_is}
 use Rattle.sum.proofs.update.Given as goal
 
 abbrev pub invariant-loop-i : goal.invariant-loop-i

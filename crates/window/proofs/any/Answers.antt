@@ -1,10 +1,8 @@
 -- `window::any` meets its contract: each byte that is looked for is looked for by itself.
 use mathlib.Core.Path.{◌≡◌, sym, ◌∙◌}
 use mathlib.Core.Bool.{◌||◌}
-use mathlib.Core.Logic.{⊎_elim}
 use Rattle.window.specs.Search.{is, any_of}
 use Rattle.window.proofs.Laws.{any_two, any_three}
-use borrow.Author.Rules.{rules}
 use Rattle.window.proofs.any.Goals as goal
 use Rattle.window.proofs.any.Goals.{then-has-2, else-has-2}
 

@@ -1,5 +1,4 @@
 -- `window::byte_at` meets its contract. Assumes nothing.
-use borrow.Author.Rules.{rules}
 use Rattle.window.proofs.Laws.{joined_left, joined_right}
 use Rattle.window.proofs.byte_at.Goals as goal
 

@@ -5,7 +5,6 @@ use lib.ListN.{length, drop}
 use Rattle.window.specs.Sync.{first}
 use Rattle.window.specs.Search.{told}
 use Rattle.window.proofs.Laws.{first_le, first_part, found_left, found_over, found_right}
-use borrow.Author.Rules.{rules}
 use Rattle.window.proofs.find.Goals as goal
 
 pub overflow_add-i : goal.overflow_add-i

@@ -1,18 +1,13 @@
 -- `window::find_end` meets its contract: no end mark begins before i, and where i is within the window a CR stands there.
-use mathlib.Core.Path.{◌≡◌, refl, sym, ◌∙◌}
-use mathlib.Core.Bool.{true}
+use mathlib.Core.Path.{refl, sym, ◌∙◌}
 use mathlib.Core.List.{◌++◌}
-use Prim.Native.Nat.{suc, ◌+◌, ◌-◌, ◌≤◌, ◌<◌}
+use Prim.Native.Nat.{suc, ◌<◌}
 use native.Mathlib.Numerals.{add-one}
 use native.Mathlib.Omega.{arith}
-use lib.ListN.{length, get_or, drop, length-append}
-use lib.Dec.{eqb}
+use lib.ListN.{length, length-append}
 use borrow.Author.Tests.{eq-eqb, ne_eqb}
-use Rattle.window.specs.declared.Found.TheVariants.{Nothing}
-use Rattle.window.specs.EndMark.{end_mark}
 use Rattle.window.specs.Search.{is}
 use Rattle.window.proofs.Laws.{first_at, mark_on, mark_next, mark_here, mark_end}
-use borrow.Author.Rules.{rules}
 use Rattle.window.proofs.find_end.Goals as goal
 
 pub loop-i-init : goal.loop-i-init

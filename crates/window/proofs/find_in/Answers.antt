@@ -3,7 +3,6 @@ use mathlib.Core.Logic.{⊎_elim}
 use native.Mathlib.Omega.{arith}
 use Rattle.window.specs.Search.{told}
 use Rattle.window.proofs.Laws.{first_end}
-use borrow.Author.Rules.{rules}
 use Rattle.window.proofs.find_in.Goals as goal
 
 pub returns-then-len-lt16 : goal.returns-then-len-lt16

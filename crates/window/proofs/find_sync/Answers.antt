@@ -1,7 +1,6 @@
 -- `window::find_sync` meets its contract: the search is for the sync bytes of the mode.
 use mathlib.Core.Path.{◌∙◌}
 use Rattle.window.proofs.Laws.{told_syncs}
-use borrow.Author.Rules.{rules}
 use Rattle.window.proofs.find_sync.Goals as goal
 
 pub returns : goal.returns

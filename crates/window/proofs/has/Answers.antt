@@ -1,11 +1,7 @@
-use mathlib.Core.Path.{◌≡◌, refl, sym, ◌∙◌}
-use mathlib.Core.Bool.{◌||◌}
-use Prim.Native.Nat.{◌≤◌, ◌-◌}
+use mathlib.Core.Path.{refl, sym, ◌∙◌}
 use native.Mathlib.Omega.{arith}
 use native.Mathlib.Numerals.{add-one}
-use lib.ListN.{length, drop}
-use borrow.Author.Rules.{rules}
-use Rattle.window.specs.Search.{any_of, is}
+use Rattle.window.specs.Search.{is}
 use Rattle.window.proofs.Laws.{any_next, any_end}
 use Rattle.window.proofs.has.Goals as goal
 

@@ -1,12 +1,8 @@
-use mathlib.Core.Path.{◌≡◌, refl, sym, ◌∙◌}
+use mathlib.Core.Path.{◌≡◌}
 use mathlib.Core.Bool.{◌||◌}
 use Prim.Native.Nat.{◌≤◌, ◌-◌}
-use native.Mathlib.Omega.{arith}
-use native.Mathlib.Numerals.{add-one}
 use lib.ListN.{length, drop}
-use borrow.Author.Rules.{rules}
 use Rattle.window.specs.Search.{any_of, is}
-use Rattle.window.proofs.Laws.{any_next, any_end}
 use Rattle.window.proofs.has.Given as goal
 
 abbrev pub invariant-loop-j : goal.invariant-loop-j

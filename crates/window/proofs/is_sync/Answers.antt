@@ -1,5 +1,4 @@
 use borrow.Author.Tests.{eq-eqb, ne_eqb}
-use borrow.Author.Rules.{rules}
 use Rattle.window.proofs.is_sync.Goals as goal
 
 pub returns-then-x-eq-UBX_SYNC_CHAR_1 : goal.returns-then-x-eq-UBX_SYNC_CHAR_1

@@ -7,7 +7,6 @@ use lib.ListN.{length, take}
 use Rattle.parity.specs.Parity.{parity_of, parity_on}
 use Rattle.parity.proofs.Laws.{on_start, of_append}
 use Rattle.window.proofs.Laws.{take_two}
-use borrow.Author.Rules.{rules}
 use Rattle.window.proofs.parity_of.Goals as goal
 
 parity_two : (a b : List ℕ) (to : ℕ) → parity_on (parity_on 0 (take (min to (length a) - 0) a)) (take (to - min to (length a) - 0) b) ≡ parity_of (take to (a ++ b))

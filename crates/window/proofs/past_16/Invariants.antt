@@ -1,11 +1,7 @@
 -- `window::past_16` meets its contract: each block that is passed begins at i or before it, and has none of what is looked for.
-use mathlib.Core.Path.{◌≡◌, sym, ◌∙◌}
-use Prim.Native.Nat.{◌+◌, ◌-◌, ◌≤◌}
-use native.Mathlib.Omega.{arith}
+use Prim.Native.Nat.{◌-◌}
 use lib.ListN.{length}
 use Rattle.window.specs.Search.{told, PastNone}
-use Rattle.window.proofs.Laws.{first_within}
-use borrow.Author.Rules.{rules}
 use Rattle.window.proofs.past_16.Given as goal
 
 abbrev pub invariant-loop-i : goal.invariant-loop-i

@@ -3,7 +3,7 @@ use mathlib.Core.Path.{◌≡◌, sym, ◌∙◌}
 use Prim.Native.Nat.{◌+◌, ◌-◌, ◌≤◌}
 use native.Mathlib.Omega.{arith}
 use lib.ListN.{length}
-use Rattle.window.specs.Search.{told, PastNone}
+use Rattle.window.specs.Search.{told}
 use Rattle.window.proofs.Laws.{first_past}
 use borrow.Author.Rules.{rules}
 use Rattle.window.proofs.past_64.Goals as goal

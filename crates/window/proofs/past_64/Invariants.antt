@@ -1,11 +1,7 @@
 -- `window::past_64` meets its contract: each block that is passed has none of what is looked for.
-use mathlib.Core.Path.{◌≡◌, sym, ◌∙◌}
-use Prim.Native.Nat.{◌+◌, ◌-◌, ◌≤◌}
-use native.Mathlib.Omega.{arith}
+use Prim.Native.Nat.{◌-◌}
 use lib.ListN.{length}
 use Rattle.window.specs.Search.{told, PastNone}
-use Rattle.window.proofs.Laws.{first_past}
-use borrow.Author.Rules.{rules}
 use Rattle.window.proofs.past_64.Given as goal
 
 abbrev pub invariant-loop-i : goal.invariant-loop-i

@@ -5,7 +5,6 @@ use Prim.Native.Nat.{ℕ}
 use Rattle.sum.specs.Sum.{zeros, sum_on}
 use Rattle.sum.proofs.Laws.{sum_append}
 use Rattle.window.proofs.Laws.{part_two}
-use borrow.Author.Rules.{rules}
 use Rattle.window.proofs.sum_of.Goals as goal
 
 pub returns : goal.returns

@@ -3,7 +3,6 @@ use mathlib.Core.Path.{◌≡◌, ◌∙◌}
 use Rattle.window.specs.Sync.{is_sync, first_sync}
 use Rattle.window.specs.Search.{syncs_of}
 use Rattle.window.proofs.Laws.{first_le, told_syncs}
-use borrow.Author.Rules.{rules}
 use Rattle.window.proofs.sync_in.Goals as goal
 
 pub returns : goal.returns
