@@ -2,7 +2,6 @@
 use mathlib.Core.Path.{refl, sym, ◌∙◌}
 use Rattle.state.proofs.Granted.{use_granted}
 use Rattle.opening.specs.Operations.{closing}
-use borrow.Author.Rules.{rules}
 use Rattle.opening.proofs.close.Goals as goal
 
 pub close_well-requires : goal.close_well-requires

@@ -5,7 +5,6 @@ use mathlib.Core.Path.{◌∙◌}
 use native.Mathlib.Omega.{arith}
 use Rattle.window.proofs.Laws.{from}
 use Rattle.state.specs.Words.{left_len}
-use borrow.Author.Rules.{rules}
 use Rattle.opening.proofs.close_well.Goals as goal
 
 pub returns : goal.returns

@@ -3,7 +3,6 @@ use mathlib.Core.Path.{refl, sym, ◌∙◌}
 use Rattle.state.proofs.Granted.{open_granted}
 use Rattle.opening.specs.Operations.{opening}
 use Rattle.opening.proofs.Ready.{noted_ready}
-use borrow.Author.Rules.{rules}
 use Rattle.opening.proofs.open.Goals as goal
 
 pub open_well-state-requires : goal.open_well-state-requires

@@ -12,7 +12,6 @@ use Rattle.state.specs.Words.{window, width}
 use Rattle.state.proofs.Window.{drain_zero}
 use Rattle.opening.specs.Operations.{noted}
 use Rattle.opening.proofs.Slices.{left_part, syncs_at_once}
-use borrow.Author.Rules.{rules}
 use Rattle.opening.proofs.open_well.Goals as goal
 
 pub returns-then-is_sync : goal.returns-then-is_sync

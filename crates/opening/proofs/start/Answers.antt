@@ -3,7 +3,6 @@ use mathlib.Core.Path.{refl}
 use borrow.Author.Tests.{lt-ltb, le-ltb}
 use Rattle.window.specs.Pick.{pick}
 use Rattle.opening.specs.Operations.{start}
-use borrow.Author.Rules.{rules}
 use Rattle.opening.proofs.start.Goals as goal
 
 pub returns-then-carry-gt-LIMIT : goal.returns-then-carry-gt-LIMIT

@@ -2,7 +2,6 @@
 use mathlib.Core.Path.{sym, ◌∙◌}
 use borrow.Author.Tests.{lt-ltb, le-ltb}
 use Rattle.state.proofs.Granted.{any_here, any_next, any_last}
-use borrow.Author.Rules.{rules}
 use Rattle.state.proofs.idle_bad.Goals as goal
 
 pub returns-then-s-gt0 : goal.returns-then-s-gt0

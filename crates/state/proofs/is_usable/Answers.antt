@@ -6,7 +6,6 @@ use native.Mathlib.Omega.{arith}
 use borrow.Author.Tests.{leb-true, not-false}
 use Rattle.state.specs.Words.{width}
 use Rattle.state.proofs.Granted.{granted_use}
-use borrow.Author.Rules.{rules}
 use Rattle.state.proofs.is_usable.Goals as goal
 
 pub returns-then-not-s : goal.returns-then-not-s

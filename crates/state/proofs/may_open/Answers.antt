@@ -3,7 +3,6 @@ use mathlib.Core.Path.{sym, ◌∙◌}
 use borrow.Author.Tests.{lt-ltb, le-ltb}
 use Rattle.window.specs.Pick.{pick}
 use Rattle.state.specs.Refusals.{may_open}
-use borrow.Author.Rules.{rules}
 use Rattle.state.proofs.may_open.Goals as goal
 
 pub returns-then-opens : goal.returns-then-opens

@@ -3,7 +3,6 @@ use mathlib.Core.Path.{sym, ◌∙◌}
 use borrow.Author.Tests.{eq-eqb, ne_eqb, not-true, not-false}
 use Rattle.window.specs.Pick.{pick}
 use Rattle.state.specs.Refusals.{may_use}
-use borrow.Author.Rules.{rules}
 use Rattle.state.proofs.may_use.Goals as goal
 
 pub returns-then-is_usable : goal.returns-then-is_usable

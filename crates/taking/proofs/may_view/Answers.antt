@@ -1,6 +1,5 @@
 -- `taking::may_view` meets its contract: the side decides which length counts.
 use mathlib.Core.Path.{◌∙◌}
-use borrow.Author.Rules.{rules}
 use Rattle.taking.proofs.may_view.Goals as goal
 
 pub returns-in-Carry : goal.returns-in-Carry

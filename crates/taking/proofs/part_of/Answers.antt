@@ -4,7 +4,6 @@ use Prim.Native.Nat.{◌+◌, ◌-◌}
 use native.Mathlib.Omega.{arith}
 use lib.ListN.{length}
 use Rattle.taking.proofs.Places.{view_ends}
-use borrow.Author.Rules.{rules}
 use Rattle.taking.proofs.part_of.Goals as goal
 
 pub overflow_add-end : goal.overflow_add-end

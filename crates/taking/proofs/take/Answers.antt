@@ -4,7 +4,6 @@ use native.Mathlib.Omega.{arith}
 use borrow.Author.Tests.{eq-eqb, ne_eqb, lt-leb, le-leb, lt-ltb, le-ltb}
 use Rattle.window.specs.Pick.{pick}
 use Rattle.taking.specs.Take.{taking}
-use borrow.Author.Rules.{rules}
 use Rattle.taking.proofs.take.Goals as goal
 
 pub returns-then-left-eq0 : goal.returns-then-left-eq0

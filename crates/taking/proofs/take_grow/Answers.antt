@@ -1,7 +1,6 @@
 -- `taking::take_grow` meets its contract.
 use mathlib.Core.Path.{◌∙◌}
 use Rattle.window.proofs.Laws.{from}
-use borrow.Author.Rules.{rules}
 use Rattle.taking.proofs.take_grow.Goals as goal
 
 pub returns : goal.returns

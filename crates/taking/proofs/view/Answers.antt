@@ -1,7 +1,6 @@
 -- `taking::view` meets its contract: the side decides which part it is.
 use mathlib.Core.Path.{◌∙◌}
 use Rattle.taking.specs.View.{view}
-use borrow.Author.Rules.{rules}
 use Rattle.taking.proofs.view.Goals as goal
 
 pub returns-in-Carry : goal.returns-in-Carry

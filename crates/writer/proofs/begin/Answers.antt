@@ -4,7 +4,6 @@ use native.Mathlib.Omega.{arith}
 use Rattle.writer_state.proofs.Granted.{begin_granted}
 use Rattle.writer.specs.Writing.{beginning}
 use Rattle.writer.proofs.Refused.{begin_refused}
-use borrow.Author.Rules.{rules}
 use Rattle.writer.proofs.begin.Goals as goal
 
 pub returns-in-Denied : goal.returns-in-Denied

@@ -8,7 +8,6 @@ use native.Mathlib.Omega.{arith}
 use Rattle.writer_state.proofs.Granted.{finish_granted}
 use Rattle.writer.specs.Writing.{finishing}
 use Rattle.writer.proofs.Refused.{finish_refused}
-use borrow.Author.Rules.{rules}
 use Rattle.writer.proofs.finish.Goals as goal
 
 pub returns-in-Denied : goal.returns-in-Denied

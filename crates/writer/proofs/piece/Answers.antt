@@ -4,7 +4,6 @@ use native.Mathlib.Omega.{arith}
 use Rattle.writer_state.proofs.Granted.{add_granted}
 use Rattle.writer.specs.Writing.{adding}
 use Rattle.writer.proofs.Refused.{add_refused}
-use borrow.Author.Rules.{rules}
 use Rattle.writer.proofs.piece.Goals as goal
 
 pub returns-in-Denied : goal.returns-in-Denied

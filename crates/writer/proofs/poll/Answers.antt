@@ -4,7 +4,6 @@ use borrow.Author.Tests.{lt-ltb, le-ltb}
 use Rattle.window.specs.Pick.{pick}
 use Rattle.writer_state.specs.Refusals.{may_poll}
 use Rattle.writer.specs.Writing.{polling}
-use borrow.Author.Rules.{rules}
 use Rattle.writer.proofs.poll.Goals as goal
 
 pub returns-then-memory-lt-AROUND : goal.returns-then-memory-lt-AROUND

@@ -4,7 +4,6 @@ use mathlib.Core.Bool.{not}
 use borrow.Author.Tests.{lt-ltb, le-ltb, eq-eqb, ne_eqb}
 use Rattle.state.proofs.Granted.{any_here, any_next, any_last}
 use Rattle.writer_state.specs.Refusals.{is_bad}
-use borrow.Author.Rules.{rules}
 use Rattle.writer_state.proofs.is_bad.Goals as goal
 
 pub returns-then-room-w : goal.returns-then-room-w

@@ -6,7 +6,6 @@ use borrow.Author.Tests.{lt-ltb, le-ltb}
 use Rattle.window.specs.Pick.{pick}
 use Rattle.writer_state.specs.Refusals.{may_add}
 use Rattle.writer_state.proofs.Granted.{sound_of}
-use borrow.Author.Rules.{rules}
 use Rattle.writer_state.proofs.may_add.Goals as goal
 
 pub returns-then-is_bad : goal.returns-then-is_bad

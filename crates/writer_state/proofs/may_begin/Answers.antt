@@ -2,7 +2,6 @@
 use borrow.Author.Tests.{lt-ltb, le-ltb}
 use Rattle.window.specs.Pick.{pick}
 use Rattle.writer_state.specs.Refusals.{may_begin}
-use borrow.Author.Rules.{rules}
 use Rattle.writer_state.proofs.may_begin.Goals as goal
 
 pub returns-then-len-gt-LONGEST : goal.returns-then-len-gt-LONGEST

@@ -3,7 +3,6 @@ use mathlib.Core.Path.{sym, ◌∙◌}
 use borrow.Author.Tests.{lt-ltb, le-ltb}
 use Rattle.window.specs.Pick.{pick}
 use Rattle.writer_state.specs.Refusals.{may_finish}
-use borrow.Author.Rules.{rules}
 use Rattle.writer_state.proofs.may_finish.Goals as goal
 
 pub returns-then-is_bad : goal.returns-then-is_bad
