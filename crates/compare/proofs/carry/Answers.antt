@@ -2,9 +2,7 @@
 use native.Mathlib.Omega.{arith}
 use borrow.Author.Rules.{rules}
 use borrow.Author.Count.{below_none, below_more}
-use Prim.Native.Nat.{◌-◌, ◌≤◌}
-use lib.ListN.{length}
-use Rattle.compare.proofs.Laws.{Alike, differs_at, alike_all}
+use Rattle.compare.proofs.Laws.{differs_at, alike_all}
 use Rattle.compare.proofs.carry.Goals as goal
 
 pub loop-i-init : goal.loop-i-init

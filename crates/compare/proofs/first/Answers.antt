@@ -1,7 +1,6 @@
 -- `compare::first` meets its contract.
 use mathlib.Core.Path.{sym, ◌∙◌}
 use Rattle.compare.proofs.Laws.{never_same}
-use borrow.Author.Rules.{rules}
 use Rattle.compare.proofs.first.Goals as goal
 
 pub returns-in-Differs : goal.returns-in-Differs

@@ -1,10 +1,7 @@
 -- `compare::words` meets its contract. The invariant: the lists are alike below i.
-use native.Mathlib.Omega.{arith}
-use borrow.Author.Rules.{rules}
-use borrow.Author.Count.{below_none, below_more}
 use Prim.Native.Nat.{◌-◌, ◌≤◌}
 use lib.ListN.{length}
-use Rattle.compare.proofs.Laws.{Alike, differs_at, alike_all}
+use Rattle.compare.proofs.Laws.{Alike}
 use Rattle.compare.proofs.words.Given as goal
 
 abbrev pub invariant-loop-i : goal.invariant-loop-i

@@ -1,5 +1,5 @@
 -- `records::number` meets its contract.
-use Rattle.std.proofs.Common.{◌≤◌, rules}
+use Rattle.std.proofs.Common.{◌≤◌}
 use Rattle.records.proofs.number.Given as goal
 
 abbrev pub invariant-loop-i : goal.invariant-loop-i

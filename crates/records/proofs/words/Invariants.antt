@@ -1,5 +1,5 @@
 -- `records::words` is safe and ends.
-use Rattle.std.proofs.Common.{◌-◌, ◌≤◌, rules}
+use Rattle.std.proofs.Common.{◌-◌, ◌≤◌}
 use Rattle.records.proofs.words.Given as goal
 
 abbrev pub invariant-loop-i : goal.invariant-loop-i
