@@ -1,5 +1,4 @@
 -- `framer::frame_at` meets its contract.
-use borrow.Author.Rules.{rules}
 use Rattle.framer.proofs.frame_at.Goals as goal
 
 pub returns-in-Ubx : goal.returns-in-Ubx

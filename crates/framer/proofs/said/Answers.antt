@@ -2,13 +2,10 @@
 use mathlib.Core.Path.{refl, ◌∙◌}
 use Prim.Native.Nat.{◌+◌}
 use native.Mathlib.Omega.{arith}
-use Rattle.claim.specs.Sizes.{skip, size}
-use Rattle.claim.specs.Verdicts.{cost}
 use Rattle.state.specs.Words.{drain}
 use Rattle.state.proofs.Granted.{drain_ready}
 use Rattle.state.proofs.Window.{drain_drain}
 use Rattle.framer.proofs.Ready.{room_of}
-use borrow.Author.Rules.{rules}
 use Rattle.framer.proofs.said.Goals as goal
 
 pub overflow_add-skip : goal.overflow_add-skip
@@ -39,7 +36,8 @@ pub take-taken-requires : goal.take-taken-requires
 take-taken-requires c = let x = c.args in let h = rw c.in-Hand.is at c.requires.skip_bound.1 in
     let here = drain_ready x.s x.carry.now x.chunk.now c.requires.ready x.skip c.requires.skip_bound.0 in
     let d = drain_drain x.skip c.skip.result (x.skip + c.skip.result) x.s refl in
-    rw (c.drained-here.ensures, ← d, c.skip.ensures, c.size.ensures) (room_of (drain x.skip x.s) x.carry.now x.chunk.now here c.in-Hand.kind h)
+    let room = room_of (drain x.skip x.s) x.carry.now x.chunk.now here c.in-Hand.kind h in
+    rw (c.drained-here.ensures, ← d, c.skip.ensures, c.size.ensures) (record { ready = room.0; room = room.1 })
 
 pub returns-in-Wait : goal.returns-in-Wait
 returns-in-Wait c = let x = c.args in

@@ -2,7 +2,6 @@
 use mathlib.Core.Path.{refl, sym, ◌∙◌}
 use Rattle.state.proofs.Granted.{use_granted}
 use Rattle.framer.specs.Step.{step}
-use borrow.Author.Rules.{rules}
 use Rattle.framer.proofs.step.Goals as goal
 
 pub step_well-requires : goal.step_well-requires

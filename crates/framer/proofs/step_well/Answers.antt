@@ -3,7 +3,6 @@ use mathlib.Core.Path.{sym, ap, ◌∙◌}
 use Rattle.framer.specs.Step.{StepOut}
 use Rattle.framer.proofs.Slices.{stops_window}
 use Rattle.framer.proofs.Turns.{stops_within, stops_says, stops_step}
-use borrow.Author.Rules.{rules}
 use Rattle.framer.proofs.step_well.Goals as goal
 
 pub said-requires : goal.said-requires

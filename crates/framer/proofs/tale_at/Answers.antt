@@ -1,5 +1,4 @@
 -- `framer::tale_at` meets its contract.
-use borrow.Author.Rules.{rules}
 use Rattle.framer.proofs.tale_at.Goals as goal
 
 pub returns-in-WrongSum : goal.returns-in-WrongSum
