@@ -3,7 +3,6 @@ use Prim.Native.Nat.{◌-◌}
 use native.Mathlib.Omega.{arith}
 use Rattle.calendar.specs.Calendar.{day_number}
 use Rattle.calendar.proofs.Calendar.{years_bound, months_bound}
-use borrow.Author.Rules.{rules}
 use Rattle.calendar.proofs.day_number.Goals as goal
 
 pub overflow_add-result : goal.overflow_add-result

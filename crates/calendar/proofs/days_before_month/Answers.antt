@@ -4,7 +4,6 @@ use native.Mathlib.Omega.{arith}
 use Rattle.calendar.specs.Calendar.{leap}
 use Rattle.calendar.proofs.Calendar.{before_bound, month_before, leap_month_before}
 use Prim.Native.Nat.{◌-◌}
-use borrow.Author.Rules.{rules}
 use Rattle.calendar.proofs.days_before_month.Goals as goal
 
 pub returns-then-month-le2 : goal.returns-then-month-le2

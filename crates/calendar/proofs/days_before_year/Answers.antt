@@ -1,7 +1,6 @@
 -- `calendar::days_before_year` meets its contract.
 use mathlib.Core.Path.{sym}
 use Rattle.calendar.proofs.Calendar.{years}
-use borrow.Author.Rules.{rules}
 use Rattle.calendar.proofs.days_before_year.Goals as goal
 
 pub returns : goal.returns

@@ -5,7 +5,6 @@ use Rattle.window.specs.Pick.{pick}
 use Rattle.calendar.specs.Calendar.{leap}
 use Rattle.calendar.proofs.Calendar.{plain_month}
 use Prim.Native.Nat.{◌-◌}
-use borrow.Author.Rules.{rules}
 use Rattle.calendar.proofs.days_in.Goals as goal
 
 pub returns-then-month-ne2 : goal.returns-then-month-ne2
