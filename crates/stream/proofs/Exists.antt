@@ -88,18 +88,21 @@ drive_within : (cs : List (List ℕ)) → ((p : Parser) → Idle p.state p.carry
     → (n : ℕ) (p : Parser) (c : List ℕ) → Usable p.state p.carry c → width p.state < n → Driven (within c) p cs
 unfolding after refused
 drive_within cs next zero p c h l = absurd (omega arith)
-drive_within cs next (suc n) p c h l =
-    let k = step_usable p.state p.carry c h in
-    let p₁ = after (steps own own c) p in
-    let go : (b : Bool) → needs_more c p ≡ b → Driven (within c) p cs =
-    λ b. elim b [
-      | false ↦ λ e. let r = drive_within cs next n p₁ c k.1 (omega (arith, k.2 e)) in (steps own own c ∷ r.0, stepped k.0 e r.1)
-      | true ↦ λ e.
-          let z = close_idle p₁.state p₁.carry c k.1 in
-          let r = next (after (closes own own c) p₁) z.1 in
-          (steps own own c ∷ closes own own c ∷ r.0, spent k.0 e (closed z.0 r.1))
-    ] in
-    go (needs_more c p) refl
+drive_within cs next (suc n) p c h l = go (needs_more c p) refl (λ r s. drive_within cs next n p₁ c r s)
+  where
+    p₁ : Parser
+    p₁ = after (steps own own c) p
+
+    go : (b : Bool) → needs_more c p ≡ b → (Usable p₁.state p₁.carry c → width p₁.state < n → Driven (within c) p₁ cs) → Driven (within c) p cs
+    go false e on =
+        let k = step_usable p.state p.carry c h in
+        let r = on k.1 (omega (arith, k.2 e)) in
+        (steps own own c ∷ r.0, stepped k.0 e r.1)
+    go true e on =
+        let k = step_usable p.state p.carry c h in
+        let z = close_idle p₁.state p₁.carry c k.1 in
+        let r = next (after (closes own own c) p₁) z.1 in
+        (steps own own c ∷ closes own own c ∷ r.0, spent k.0 e (closed z.0 r.1))
 
 drive : (cs : List (List ℕ)) → Short cs → (p : Parser) → Idle p.state p.carry → Driven between p cs
 unfolding after refused

@@ -143,9 +143,9 @@ module _ (move : List ℕ → Sight) where
     scans zero h here last = refl
     scans (suc n) h (here {p} {W}) last = scan_end p W (move W) (λ k. scan_by move n (p + k) (drop k W)) last
     scans zero h (turn {W = W} e g) last = absurd (omega (arith, (steady.goes W e).0, (steady.goes W e).1))
-    scans (suc n) h (turn {p} {W = W} e g) last =
+    scans {p = p} (suc n) h (turn {W = W} e g) last =
         let k : length (drop (gone (move W)) W) ≤ n = rw length-drop (omega (arith, (steady.goes W e).0, (steady.goes W e).1)) in
-        scan_turn p W (move W) (λ k. scan_by move n (p + k) (drop k W)) e ∙ rw (scans n k g last)
+        scan_turn p W (move W) (λ k. scan_by move n (p + k) (drop k W)) e ∙ rw (scans {p = p + gone (move W)} n k g last)
 
     pub scanned : (turns p : ℕ) (W : List ℕ) → length W ≤ turns
         → Walk move p W (scan_by move turns p W).answers (scan_by move turns p W).tail_at (scan_by move turns p W).tail × (ends (move (scan_by move turns p W).tail) ≡ true)
