@@ -6,7 +6,7 @@ use mathlib.Core.List.{List, [], ◌∷◌}
 use Prim.Native.Nat.{ℕ, ◌+◌, ◌*◌, ◌%◌, ◌≤◌}
 use native.Mathlib.Omega.{arith}
 use lib.ListN.{length, get_or, take}
-use lib.Dec.{ltb, eqb}
+use lib.Dec.{ltb}
 use borrow.Author.Tests.{leb-true, eqb-true, eqb-false}
 use Rattle.parity.specs.Parity.{parity_of, word_of}
 use Rattle.window.specs.declared.Mode.{Mode}
@@ -15,7 +15,7 @@ use Rattle.window.specs.Sync.{has_parity, is_sync}
 use Rattle.window.specs.EndMark.{end_mark}
 use Rattle.window.proofs.Pick.{by_pick}
 use Rattle.claim.specs.declared.Kind.{Kind, TheVariants.{Ubx, Rtcm, Sentence}}
-use Rattle.claim.specs.declared.Tale.{Tale, TheVariants.{WrongSum, WrongParity, NoRoom}}
+use Rattle.claim.specs.declared.Tale.{TheVariants.{WrongSum, WrongParity, NoRoom}}
 use Rattle.claim.specs.declared.Verdict.{Verdict, TheVariants.{Wait, Tell, Hand}}
 use Rattle.claim.specs.Sizes.{skip, size, back}
 use Rattle.claim.specs.Verdicts.{can_hand, lacks}

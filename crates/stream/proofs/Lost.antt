@@ -1,5 +1,5 @@
 -- No good frame is lost, of whatever kind, by any moves that hand it out where it stands and jump no byte but a 62.
-use mathlib.Core.Path.{◌≡◌, refl, sym, ◌∙◌}
+use mathlib.Core.Path.{◌≡◌, refl, ◌∙◌}
 use mathlib.Core.Bool.{Bool, true, false, true≢false}
 use mathlib.Core.List.Memᴰ.{append_right as among-right}
 use mathlib.Core.List.Memᴰ.{head as among-head}

@@ -1,20 +1,18 @@
 -- None but a good frame is handed out as a UBX frame, and a wrong sum is one, with the true pair.
 use mathlib.Core.Path.{◌≡◌, sym, ap, subst, ◌∙◌}
-use mathlib.Core.List.Memᴰ.{eq_of_singleton as among_one}
-use mathlib.Core.List.Memᴰ.{not-nil as among-nil}
-use mathlib.Core.List.{List, Memᴰ as Among}
+use mathlib.Core.List.{List}
 use Prim.Native.Nat.{ℕ, ◌+◌, ◌≤◌}
 use native.Mathlib.Nat.{zero-add}
 use native.Mathlib.Omega.{arith}
 use lib.ListN.{length, take, drop, length-drop}
 use lib.Seq.{get_or-drop, length-take-le}
 use Rattle.window.specs.declared.Mode.{Mode}
-use Rattle.claim.specs.declared.Kind.{Kind, TheVariants.{Ubx, Rtcm, Sentence}}
-use Rattle.claim.specs.declared.Tale.{Tale, TheVariants.{WrongSum, WrongParity, NoRoom}}
-use Rattle.claim.specs.declared.Verdict.TheVariants.{Wait, Tell, Hand}
-use Rattle.look.specs.declared.Sight.{Sight, TheVariants.{Pass, Say}}
+use Rattle.claim.specs.declared.Kind.{TheVariants.{Ubx, Rtcm, Sentence}}
+use Rattle.claim.specs.declared.Tale.{TheVariants.{WrongSum, WrongParity, NoRoom}}
+use Rattle.claim.specs.declared.Verdict.TheVariants.{Tell, Hand}
+use Rattle.look.specs.declared.Sight.{Sight, TheVariants.{Say}}
 use Rattle.look.specs.Within.{whole}
-use Rattle.stream.specs.Scan.{ubx_frame, wrong_sum, Event, tale_said, frame_said, body, scan_move, HasScan}
+use Rattle.stream.specs.Scan.{ubx_frame, wrong_sum, Event, body, scan_move, HasScan}
 use Rattle.stream.specs.Interface.{GoodFrame, WrongFrame, Bytes}
 use Rattle.stream.specs.Frames.{body_of, OnlyGoodFrames, OnlyWrongSums}
 use Rattle.stream.proofs.Walks.{SaidBy, by_tale, by_frame, said_by, said_at}

@@ -13,9 +13,8 @@ use lib.ListN.{length, get_or, take, drop}
 use Rattle.window.specs.declared.Mode.TheVariants.{Two}
 use Rattle.claim.specs.declared.Kind.TheVariants.{Rtcm}
 use Rattle.claim.specs.declared.Verdict.TheVariants.{Hand}
-use Rattle.claim.specs.Sizes.{around}
 use Rattle.look.specs.declared.Sight.TheVariants.{Say}
-use Rattle.stream.specs.Scan.{Said, ubx_frame, rtcm_frame, sentence, wrong_sum, wrong_parity, no_room, Event, body, scan_move, scan_from, scan}
+use Rattle.stream.specs.Scan.{Said, ubx_frame, rtcm_frame, sentence, wrong_sum, wrong_parity, no_room, Event, body, scan_move, scan}
 use Rattle.stream.specs.Interface.{frame, GoodFrame, Bytes}
 use Rattle.stream.specs.Frames.{span, hand_out, Kept, handed as kept-handed, inside as kept-inside, unfinished as kept-unfinished}
 use Rattle.stream.specs.Rtcm.{rtcm, GoodRtcm, WrongRtcm}

@@ -1,6 +1,6 @@
 -- Where RTCM 10403's frame stands at the front of a window it is handed out, and nowhere else: in mode two with parity.
 use mathlib.Core.Path.{◌≡◌, refl, sym, ap, ap₂, ◌∙◌}
-use mathlib.Core.Bool.{Bool, true, false}
+use mathlib.Core.Bool.{true}
 use mathlib.Core.List.{List, [], ◌∷◌, ◌++◌, append_assoc}
 use Prim.Native.Nat.{ℕ, suc, ◌+◌, ◌*◌, ◌/◌, ◌%◌, ◌≤◌, ◌<◌}
 use native.Mathlib.Numerals.{add-one, add-two, add-three, add-four, add_five}
@@ -20,7 +20,7 @@ use Rattle.look.proofs.Rules.{rtcm_claims}
 use Rattle.stream.specs.Scan.{body, scan_move}
 use Rattle.stream.specs.Interface.{Bytes}
 use Rattle.stream.specs.Rtcm.{headed, parity_bytes, rtcm, longest, GoodRtcm, WrongRtcm}
-use Rattle.stream.proofs.Headed.{Headed, received, computed}
+use Rattle.stream.proofs.Headed.{received, computed}
 
 -- the head's two bytes hold the length, whatever the reserved bits, and the three bytes the parity
 length_held : (reserved n : ℕ) → n ≤ longest → (256 * (4 * reserved + n / 256) + n % 256) % 1024 ≡ n
