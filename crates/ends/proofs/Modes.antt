@@ -1,6 +1,5 @@
 -- A mode's number is one digit.
-use mathlib.Core.Path.{◌≡◌, refl}
-use lib.ListN.{length}
+use Rattle.std.proofs.Common.{◌≡◌, refl, length}
 use Rattle.window.specs.declared.Mode.{Mode, TheVariants.{One, Two, Three}}
 use Rattle.window.specs.Pick.{pick}
 use Rattle.text.specs.Digits.{digits_in, decimal}

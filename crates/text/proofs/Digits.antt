@@ -1,6 +1,6 @@
 -- Decimal digits: what the kit writes is the definition's, and reading them back gives the number. Hexadecimal ones: all but the
 -- last, and the last.
-use Rattle.std.proofs.Common.{◌≡◌, ℕ, zero, suc, ◌+◌, ◌-◌, ◌*◌, ◌/◌, ◌%◌, ◌^◌, ◌<◌, ◌≤◌, List, [], ◌∷◌, ◌++◌, length, get_or, refl, ◌∙◌, mod-eq_of_lt, pow-suc, lt_of_not-le, arith, ltb-false, le-ltb, lt-ltb}
+use Rattle.std.proofs.Common.{◌≡◌, ℕ, zero, suc, ◌+◌, ◌-◌, ◌*◌, ◌/◌, ◌%◌, ◌^◌, ◌<◌, ◌≤◌, List, [], ◌∷◌, ◌++◌, get_or, refl, ◌∙◌, mod-eq_of_lt, pow-suc, lt_of_not-le, arith, ltb-false, le-ltb, lt-ltb}
 use native.Mathlib.Nat.{one-le-pow, pow-le-pow_right}
 use Rattle.io.specs.Digits.{last_digits, hex_digit_ascii, IsDigitCount}
 use Rattle.window.specs.Pick.{pick}

@@ -3,7 +3,6 @@ use Prim.Native.Nat.{◌≤◌}
 use native.Mathlib.Omega.{arith}
 use lib.ListN.{length}
 use Rattle.text.proofs.Laws.{behind}
-use borrow.Author.Rules.{rules}
 use Rattle.line_parts.proofs.ubx.Goals as goal
 
 pub returns : goal.returns

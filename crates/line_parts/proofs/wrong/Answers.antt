@@ -1,7 +1,6 @@
 -- `line_parts::wrong` meets its contract: the sums, and behind them the frame or the line end.
 use native.Mathlib.Omega.{arith}
 use Rattle.text.proofs.Laws.{behind}
-use borrow.Author.Rules.{rules}
 use Rattle.line_parts.proofs.wrong.Goals as goal
 
 pub returns-then-named : goal.returns-then-named

@@ -1,5 +1,5 @@
 -- `text::labelled` meets its contract: the label, and the digits behind it.
-use Rattle.std.proofs.Common.{arith, rules}
+use Rattle.std.proofs.Common.{arith}
 use Rattle.text.proofs.Laws.{behind}
 use Rattle.text.proofs.labelled.Goals as goal
 

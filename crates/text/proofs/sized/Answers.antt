@@ -1,5 +1,5 @@
 -- `text::sized` meets its contract: the label and the number, and the line end behind them.
-use Rattle.std.proofs.Common.{arith, rules}
+use Rattle.std.proofs.Common.{arith}
 use Rattle.text.proofs.Laws.{behind}
 use Rattle.text.proofs.sized.Goals as goal
 
