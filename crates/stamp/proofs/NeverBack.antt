@@ -11,8 +11,8 @@ use Rattle.stream.specs.Scan.{Event}
 use Rattle.stream.specs.Calls.{Parser, Call, starts, opens, steps, closes, views, step_given, after, heard as eventsOf, hears, hears_all}
 use Rattle.stream.specs.Demand.{fresh}
 use Rattle.stream.proofs.Demand.{every_cutting_gives_the_scan}
-use Rattle.stamp.specs.declared.Clock.{Clock, TheVariants.{Unset, Last}}
-use Rattle.stamp.specs.declared.Reading.{Reading, TheVariants.{Stamp, BackBy, Refused}}
+use Rattle.stamp.specs.declared.Clock.{Clock, TheVariants.{Last}}
+use Rattle.stamp.specs.declared.Reading.{Reading, TheVariants.{BackBy}}
 use Rattle.stamp.specs.declared.Heard.{Heard}
 use Rattle.stamp.specs.Message.{fields_of}
 use Rattle.stamp.specs.Stamp.{stamp_of, read}

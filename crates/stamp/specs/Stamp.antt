@@ -4,7 +4,7 @@ use Rattle.window.specs.Pick.{pick}
 use Rattle.calendar.specs.Calendar.{day_number, seconds_at}
 use Rattle.stamp.specs.declared.Fields.{Fields}
 use Rattle.stamp.specs.declared.Clock.{Clock, TheVariants.{Unset, Last}}
-use Rattle.stamp.specs.declared.Fault.{Fault, TheVariants.{NotThisMessage, NotValid, Field}}
+use Rattle.stamp.specs.declared.Fault.{TheVariants.{NotThisMessage, NotValid, Field}}
 use Rattle.stamp.specs.declared.Reading.{Reading, TheVariants.{Stamp, BackBy, Refused}}
 use Rattle.stamp.specs.declared.Heard.{Heard}
 use Rattle.stamp.specs.Message.{is_this, fields_of, is_valid, in_range}

@@ -7,7 +7,7 @@ use Rattle.framer.specs.declared.Answer.{Answer, TheVariants.{UbxFrame, RtcmFram
 use Rattle.framer.specs.Step.{StepOut, step as frameStep}
 use Rattle.stamp.specs.declared.Clock.{Clock}
 use Rattle.stamp.specs.declared.Heard.{Heard}
-use Rattle.stamp.specs.declared.Told.{Told, TheVariants.{Nothing, Frame}}
+use Rattle.stamp.specs.declared.Told.{TheVariants.{Nothing, Frame}}
 use Rattle.stamp.specs.declared.News.{News}
 use Rattle.stamp.specs.declared.Timed.{Timed}
 use Rattle.stamp.specs.Stamp.{read}

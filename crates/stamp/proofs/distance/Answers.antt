@@ -1,7 +1,6 @@
 -- `stamp::distance` meets its contract.
 use mathlib.Core.Path.{sym, ◌∙◌}
 use Rattle.window.specs.Pick.{pick}
-use borrow.Author.Rules.{rules}
 use Rattle.stamp.proofs.distance.Goals as goal
 
 pub returns-then-is_minus : goal.returns-then-is_minus

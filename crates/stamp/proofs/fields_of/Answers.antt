@@ -1,5 +1,4 @@
 -- `stamp::fields_of` meets its contract.
-use borrow.Author.Rules.{rules}
 use Rattle.stamp.proofs.fields_of.Goals as goal
 
 pub returns : goal.returns

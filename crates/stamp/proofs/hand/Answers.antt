@@ -2,7 +2,6 @@
 use native.Mathlib.Omega.{arith}
 use borrow.Author.Tests.{lt-ltb, le-ltb}
 use Rattle.window.specs.Pick.{pick}
-use borrow.Author.Rules.{rules}
 use Rattle.stamp.proofs.hand.Goals as goal
 
 pub returns-then-t-last : goal.returns-then-t-last

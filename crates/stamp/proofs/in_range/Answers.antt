@@ -1,8 +1,6 @@
 -- `stamp::in_range` meets its contract.
 use mathlib.Core.Path.{sym, ◌∙◌}
-use borrow.Author.Tests.{not-true, not-false}
 use Rattle.stamp.specs.Message.{in_range}
-use borrow.Author.Rules.{rules}
 use Rattle.stamp.proofs.in_range.Goals as goal
 
 pub returns-then-not-is_date : goal.returns-then-not-is_date

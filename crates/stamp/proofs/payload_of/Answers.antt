@@ -3,7 +3,6 @@ use mathlib.Core.Path.{◌≡◌}
 use Prim.Native.Nat.{◌-◌}
 use lib.ListN.{length, length-take}
 use native.Mathlib.Omega.{arith}
-use borrow.Author.Rules.{rules}
 use Rattle.stamp.proofs.payload_of.Goals as goal
 
 pub returns-then-body-lt2 : goal.returns-then-body-lt2

@@ -2,23 +2,12 @@
 use mathlib.Core.Path.{◌≡◌, sym, ap, ◌∙◌}
 use mathlib.Core.Bool.{true}
 use lib.ListN.{length}
-use borrow.Author.Tests.{not-true, not-false}
 use Rattle.stamp.specs.Message.{is_this, fields_of, is_valid, in_range}
 use Rattle.stamp.specs.Stamp.{stamp_of, hand}
 use Rattle.stamp.proofs.Ranges.{this_length}
 use Rattle.stamp.proofs.Determined.{is_reads}
 use Rattle.stamp.proofs.Outcomes.{read_other, read_invalid, read_outside, read_hands}
-use borrow.Author.Rules.{rules}
 use Rattle.stamp.proofs.read.Goals as goal
-
-this : (c : tie.Else1) → let x = c.args in is_this x.class x.id (length x.payload.now) ≡ true
-this c = sym c.is_this.ensures ∙ c.if-not-is_this.false
-
-valid : (c : tie.Else2) → is_valid (fields_of c.args.payload.now) ≡ true
-valid c = sym (c.is_valid.ensures ∙ ap is_valid c.fields_of-f.ensures) ∙ c.if-not-is_valid.false
-
-in_range : (c : tie.Else3) → in_range (fields_of c.args.payload.now) ≡ true
-in_range c = sym (c.in_range.ensures ∙ ap in_range c.fields_of-f.ensures) ∙ c.if-not-in_range.false
 
 pub returns-then-not-is_this : goal.returns-then-not-is_this
 returns-then-not-is_this c = let x = c.args in
@@ -26,27 +15,33 @@ returns-then-not-is_this c = let x = c.args in
     is_reads _ _ (c.refused.ensures ∙ sym (read_other x.clock x.class x.id x.payload.now other))
 
 pub fields_of-f-requires : goal.fields_of-f-requires
-fields_of-f-requires c = let x = c.args in this_length x.class x.id _ (this c)
+fields_of-f-requires c = let x = c.args in
+    let this : is_this x.class x.id (length x.payload.now) ≡ true = sym c.is_this.ensures ∙ c.if-not-is_this.false in
+    this_length x.class x.id _ this
 
 pub returns-then-not-is_valid : goal.returns-then-not-is_valid
 returns-then-not-is_valid c = let x = c.args in
+    let this : is_this x.class x.id (length x.payload.now) ≡ true = sym c.is_this.ensures ∙ c.if-not-is_this.false in
     let invalid = sym (c.is_valid.ensures ∙ ap is_valid c.fields_of-f.ensures) ∙ c.if-not-is_valid.true in
-    is_reads _ _ (c.refused-then-not-is_valid.ensures ∙ sym (read_invalid x.clock x.class x.id x.payload.now (this c) invalid))
+    is_reads _ _ (c.refused-then-not-is_valid.ensures ∙ sym (read_invalid x.clock x.class x.id x.payload.now this invalid))
 
 pub returns-then-not-in_range : goal.returns-then-not-in_range
 returns-then-not-in_range c = let x = c.args in
-    let past = c in
-    let outside = sym (c.in_range.ensures ∙ ap in_range past.fields_of-f.ensures) ∙ c.if-not-in_range.true in
+    let this : is_this x.class x.id (length x.payload.now) ≡ true = sym c.is_this.ensures ∙ c.if-not-is_this.false in
+    let valid : is_valid (fields_of x.payload.now) ≡ true = sym (c.is_valid.ensures ∙ ap is_valid c.fields_of-f.ensures) ∙ c.if-not-is_valid.false in
+    let outside = sym (c.in_range.ensures ∙ ap in_range c.fields_of-f.ensures) ∙ c.if-not-in_range.true in
     is_reads _ _
-    (c.refused-then-not-in_range.ensures ∙ sym (read_outside x.clock x.class x.id x.payload.now (this past) (valid past) outside))
+    (c.refused-then-not-in_range.ensures ∙ sym (read_outside x.clock x.class x.id x.payload.now this valid outside))
 
 pub stamp_of-requires : goal.stamp_of-requires
 stamp_of-requires c = sym c.in_range.ensures ∙ c.if-not-in_range.false
 
 pub returns : goal.returns
 returns c = let x = c.args in
-    let past = c in
-    let stamp = c.stamp_of.ensures ∙ ap stamp_of past.fields_of-f.ensures in
+    let this : is_this x.class x.id (length x.payload.now) ≡ true = sym c.is_this.ensures ∙ c.if-not-is_this.false in
+    let valid : is_valid (fields_of x.payload.now) ≡ true = sym (c.is_valid.ensures ∙ ap is_valid c.fields_of-f.ensures) ∙ c.if-not-is_valid.false in
+    let inside : in_range (fields_of x.payload.now) ≡ true = sym (c.in_range.ensures ∙ ap in_range c.fields_of-f.ensures) ∙ c.if-not-in_range.false in
+    let stamp = c.stamp_of.ensures ∙ ap stamp_of c.fields_of-f.ensures in
     is_reads _ _
     (c.hand.ensures ∙ ap (hand x.clock) stamp
-    ∙ sym (read_hands x.clock x.class x.id x.payload.now (this past) (valid past) (in_range c)))
+    ∙ sym (read_hands x.clock x.class x.id x.payload.now this valid inside))

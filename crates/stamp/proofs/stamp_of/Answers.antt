@@ -1,5 +1,4 @@
 -- `stamp::stamp_of` meets its contract: in range, no number is too large, and none falls below zero.
-use Prim.Native.Nat.{◌-◌}
 use native.Mathlib.Omega.{arith}
 use Rattle.window.specs.Pick.{pick}
 use Rattle.calendar.proofs.Ranges.{day_bound}

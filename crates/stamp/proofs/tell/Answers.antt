@@ -1,22 +1,19 @@
 -- `stamp::tell` meets its contract: a UBX frame's payload is read, and nothing else tells anything.
 use mathlib.Core.Path.{◌≡◌, refl, ap, ◌∙◌}
-use mathlib.Core.List.{List, [], ◌∷◌}
+use mathlib.Core.List.{List}
 use Prim.Native.Nat.{ℕ}
-use types.Run.{OneOf, miss}
-use denote.Enum.Declared.{tag_of}
 use Rattle.taking.specs.declared.Place.{Place}
 use Rattle.framer.specs.declared.Answer.{Answer, TheVariants.{UbxFrame, RtcmFrame, Sentence, WrongSum, NoRoom, NeedMore, Refused, WrongParity}}
-use Rattle.framer.specs.contracts.Answer.{the_type}
 use Rattle.stamp.specs.declared.Clock.{Clock}
 use Rattle.stamp.specs.Stamp.{read}
 use Rattle.stamp.specs.Step.{payload_of, nothing, frame, tells}
 use Rattle.stamp.proofs.Determined.{reads_is}
-use borrow.Author.Rules.{rules}
 use Rattle.stamp.proofs.tell.Goals as goal
 
 -- every kind but the first
-others : (clock : Clock) (sight : Place → List ℕ) (a : Answer) → OneOf (1 ∷ 2 ∷ 3 ∷ 4 ∷ 5 ∷ 6 ∷ 7 ∷ []) (tag_of the_type a) → nothing clock ≡ tells clock sight a
-others clock sight (UbxFrame class id p place) h = absurd (miss (1 ∷ 2 ∷ 3 ∷ 4 ∷ 5 ∷ 6 ∷ 7 ∷ []) 0 tt h)
+others : (clock : Clock) (sight : Place → List ℕ) (a : Answer)
+    → ((class id p : ℕ) (place : Place) → a ≡ UbxFrame class id p place → ⊥) → nothing clock ≡ tells clock sight a
+others clock sight (UbxFrame class id p place) h = absurd (h class id p place refl)
 others clock sight (RtcmFrame p place) h = refl
 others clock sight (Sentence p place) h = refl
 others clock sight (WrongSum class id n p expect got) h = refl
@@ -26,7 +23,7 @@ others clock sight (Refused r) h = refl
 others clock sight (WrongParity p expect got) h = refl
 
 pub returns-in_default : goal.returns-in_default
-returns-in_default c = let x = c.args in others x.clock _ x.answer c.in-UbxFrame.keys2
+returns-in_default c = let x = c.args in others x.clock _ x.answer c.in_default.not-UbxFrame
 
 pub returns : goal.returns
 returns c = let x = c.args in
