@@ -1,10 +1,9 @@
 -- `quick_frames::at_rtcm` meets its contract: a frame without parity has no sum to be judged by.
 use mathlib.Core.Path.{refl, ap, ◌∙◌}
 use mathlib.Core.Bool.{false}
-use mathlib.Core.Logic.{⊎_elim, inl, inr}
+use mathlib.Core.Logic.{inl, inr}
 use Prim.Native.Nat.{◌+◌, ◌≤◌, ◌<◌}
 use native.Mathlib.Omega.{arith}
-use borrow.Author.Tests.{not-false, leb-true, leb-false}
 use Rattle.claim.specs.declared.Kind.TheVariants.{Rtcm}
 use Rattle.look.proofs.Rules.{judge_bare}
 use Rattle.seek.specs.OneSide.{OnOneSide}
@@ -12,8 +11,8 @@ use Rattle.state.specs.Words.{left_len, window, width}
 use Rattle.framer.specs.Step.{say}
 use Rattle.quick_words.proofs.Written.{leaves_by}
 use Rattle.quick_frames.proofs.Ways.{waits, judges_here, judges_fitting}
-use borrow.Author.Rules.{rules}
 use Rattle.quick_frames.proofs.at_rtcm.Goals as goal
+use Rattle.quick_frames.proofs.at_rtcm.Goals.{then-left-eq0-via-then-left-eq0, then-left-eq0-via-else-left-eq0+then-size-left}
 
 pub returns-then-w-size : goal.returns-then-w-size
 returns-then-w-size c = let start = c in
@@ -28,14 +27,20 @@ pub hand-requires : goal.hand-requires
 hand-requires c = let start = c in
     let x = start.args in let r = start.requires.ready in
     let l = c.if-w-size.false in
-    let side : OnOneSide (left_len x.s) (Rtcm x.n false) = ⊎_elim (λ z. inl z.taken) (λ z. let t = leb-true (x.n + 3) (left_len x.s) z.1.taken in inr (omega arith)) c.if-left-eq0.branch in
+    let side : OnOneSide (left_len x.s) (Rtcm x.n false) = elim c.then-left-eq0.branch [
+      | then-left-eq0-via-then-left-eq0 w ↦ inl w.if-left-eq0.true
+      | then-left-eq0-via-else-left-eq0+then-size-left w ↦ inr (omega arith)
+    ] in
     record { before_value = (refl, refl); off_le_live = (r.sane.offs, (r.sane.parts, r.counts)); kind_bound = (omega arith, side) }
 
 pub returns-then-left-eq0 : goal.returns-then-left-eq0
 returns-then-left-eq0 c = let start = c in
     let x = start.args in let h = start.requires in
     let l = c.if-w-size.false in
-    let side : OnOneSide (left_len x.s) (Rtcm x.n false) = ⊎_elim (λ z. inl z.taken) (λ z. let t = leb-true (x.n + 3) (left_len x.s) z.1.taken in inr (omega arith)) c.if-left-eq0.branch in
+    let side : OnOneSide (left_len x.s) (Rtcm x.n false) = elim c.then-left-eq0.branch [
+      | then-left-eq0-via-then-left-eq0 w ↦ inl w.if-left-eq0.true
+      | then-left-eq0-via-else-left-eq0+then-size-left w ↦ inr (omega arith)
+    ] in
     leaves_by _ _ _ _ _ _
     (judges_here x.s x.carry.now x.chunk.now h.ready (Rtcm x.n false) h.chunk_value (omega arith) side
     ∙ ap (say x.s x.carry.now x.chunk.now) (judge_bare x.n (window x.s x.carry.now x.chunk.now)))
@@ -44,7 +49,7 @@ returns-then-left-eq0 c = let start = c in
 pub has_room-requires : goal.has_room-requires
 has_room-requires c = let start = c in
     let x = start.args in let h = start.requires in let r = h.ready in let n = h.n_bound in
-    let b = leb-false (x.n + 3) (left_len x.s) c.if-size-left.false in
+    let b = c.if-size-left.false in
     let l : left_len x.s < 0 + (x.n + 3) = omega arith in
     let m : 0 + (x.n + 3) ≤ 32768 = omega arith in
     record { off_le_live = (r.sane.offs, r.sane.lives); s_bound = (l, m) }
@@ -53,7 +58,7 @@ pub bring-requires : goal.bring-requires
 bring-requires c = let start = c in
     let x = start.args in let r = start.requires.ready in
     let l = c.if-w-size.false in
-    let a = leb-false (x.n + 3) (left_len x.s) c.if-size-left.false in
+    let a = c.if-size-left.false in
     let room = c.has_room.ensures c.if-not-has_room.false in
     let all : 0 + (x.n + 3) ≤ width x.s = omega arith in
     let more : left_len x.s < 0 + (x.n + 3) = omega arith in

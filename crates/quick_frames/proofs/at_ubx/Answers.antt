@@ -1,16 +1,15 @@
 -- `quick_frames::at_ubx` meets its contract: a frame waits, lies on both sides, or its sum decides on one.
-use mathlib.Core.Path.{refl, ap, ◌∙◌}
-use mathlib.Core.Logic.{⊎_elim, inl, inr}
+use mathlib.Core.Path.{◌≡◌, refl, ap, ◌∙◌}
+use mathlib.Core.Logic.{◌⊎◌, inl, inr}
 use Prim.Native.Nat.{◌+◌}
 use native.Mathlib.Omega.{arith}
 use lib.ListN.{get_or}
-use borrow.Author.Tests.{eqb-true, eqb-false}
 use Rattle.claim.specs.declared.Kind.TheVariants.{Ubx}
 use Rattle.framer.specs.Step.{say}
 use Rattle.quick_words.proofs.Written.{leaves_by}
 use Rattle.quick_frames.proofs.Ways.{first_short, on_first, waits, decides_here, sum_right, sum_wrong}
-use borrow.Author.Rules.{rules}
 use Rattle.quick_frames.proofs.at_ubx.Goals as goal
+use Rattle.quick_frames.proofs.at_ubx.Goals.{else-x-got-via-then-x-got+else-y-got, else-x-got-via-else-x-got}
 
 pub returns-then-w-n : goal.returns-then-w-n
 returns-then-w-n c = let start = c in
@@ -47,7 +46,7 @@ returns-then-y-got c = let start = c in
     let sum = c.update-got in
     leaves_by _ _ _ _ _ _
     (decides_here x.s x.carry.now x.chunk.now r x.class x.id x.n h.chunk_value f first.ensures (omega arith) sum.result (rw new at sum.ensures)
-    ∙ ap (say x.s x.carry.now x.chunk.now) (sum_right (get_or f (6 + x.n) 0) (get_or f (6 + x.n + 1) 0) sum.result x.class x.id x.n c.if-x-got.true (eqb-true _ _ c.if-y-got.true)))
+    ∙ ap (say x.s x.carry.now x.chunk.now) (sum_right (get_or f (6 + x.n) 0) (get_or f (6 + x.n + 1) 0) sum.result x.class x.id x.n c.if-x-got.true c.if-y-got.true))
     (c.hand.ensures x.carry.now x.chunk.now)
 
 pub returns : goal.returns
@@ -57,7 +56,11 @@ returns c = let start = c in
     let m = c.if-f-n.false in
     let first = c.first_of-f in let f = first.result.now in
     let new = c.new.ensures in let sum = c.update-got in
+    let wrong : (get_or f (6 + x.n) 0 ≡ sum.result.a → ⊥) ⊎ (get_or f (6 + x.n + 1) 0 ≡ sum.result.b → ⊥) = elim c.else-x-got.branch [
+      | else-x-got-via-then-x-got+else-y-got w ↦ inr w.if-y-got.false
+      | else-x-got-via-else-x-got w ↦ inl w.if-x-got.false
+    ] in
     leaves_by _ _ _ _ _ _
     (decides_here x.s x.carry.now x.chunk.now r x.class x.id x.n h.chunk_value f first.ensures (omega arith) sum.result (rw new at sum.ensures)
-    ∙ ap (say x.s x.carry.now x.chunk.now) (sum_wrong (get_or f (6 + x.n) 0) (get_or f (6 + x.n + 1) 0) sum.result x.class x.id x.n (⊎_elim (λ z. inr (eqb-false _ _ z.2.left)) (λ z. inl z.left) c.if-x-got.branch)))
+    ∙ ap (say x.s x.carry.now x.chunk.now) (sum_wrong (get_or f (6 + x.n) 0) (get_or f (6 + x.n + 1) 0) sum.result x.class x.id x.n wrong))
     (c.tell_wrong.ensures x.carry.now x.chunk.now)

@@ -1,14 +1,12 @@
 -- `quick_frames::ubx_across` meets its contract: the sum over both sides decides.
-use mathlib.Core.Path.{refl, ap, ◌∙◌}
-use mathlib.Core.Logic.{⊎_elim, inl, inr}
+use mathlib.Core.Path.{◌≡◌, refl, ap, ◌∙◌}
+use mathlib.Core.Logic.{◌⊎◌, inl, inr}
 use native.Mathlib.Omega.{arith}
-use borrow.Author.Tests.{not-false, eqb-true, eqb-false}
-use Rattle.claim.specs.declared.Kind.TheVariants.{Ubx}
 use Rattle.framer.specs.Step.{say}
 use Rattle.quick_words.proofs.Written.{leaves_by}
 use Rattle.quick_frames.proofs.Ways.{decides_across, sum_right, sum_wrong}
-use borrow.Author.Rules.{rules}
 use Rattle.quick_frames.proofs.ubx_across.Goals as goal
+use Rattle.quick_frames.proofs.ubx_across.Goals.{else-x-got-via-then-x-got+else-y-got, else-x-got-via-else-x-got}
 
 pub bring-requires : goal.bring-requires
 bring-requires c = let h = c.requires in let l = h.s_bound in
@@ -25,7 +23,7 @@ returns-then-y-got c = let start = c in
     let next = c.byte_at-y in
     leaves_by _ _ _ _ _ _
     (decides_across x.s x.carry.now x.chunk.now r x.class x.id x.n h.chunk_value at.result next.result sum.result (omega arith) (omega arith) at.ensures next.ensures sum.ensures
-    ∙ ap (say x.s x.carry.now x.chunk.now) (sum_right at.result next.result sum.result x.class x.id x.n c.if-x-got.true (eqb-true _ _ c.if-y-got.true)))
+    ∙ ap (say x.s x.carry.now x.chunk.now) (sum_right at.result next.result sum.result x.class x.id x.n c.if-x-got.true c.if-y-got.true))
     c.bring.ensures
 
 pub tell_wrong-requires : goal.tell_wrong-requires
@@ -40,7 +38,11 @@ returns c = let start = c in
     let sum = c.sum_of-got in
     let at = c.byte_at-x in
     let next = c.byte_at-y in
+    let wrong : (at.result ≡ sum.result.a → ⊥) ⊎ (next.result ≡ sum.result.b → ⊥) = elim c.else-x-got.branch [
+      | else-x-got-via-then-x-got+else-y-got w ↦ inr w.if-y-got.false
+      | else-x-got-via-else-x-got w ↦ inl w.if-x-got.false
+    ] in
     leaves_by _ _ _ _ _ _
     (decides_across x.s x.carry.now x.chunk.now r x.class x.id x.n h.chunk_value at.result next.result sum.result (omega arith) (omega arith) at.ensures next.ensures sum.ensures
-    ∙ ap (say x.s x.carry.now x.chunk.now) (sum_wrong at.result next.result sum.result x.class x.id x.n (⊎_elim (λ z. inr (eqb-false _ _ z.2.left)) (λ z. inl z.left) c.if-x-got.branch)))
+    ∙ ap (say x.s x.carry.now x.chunk.now) (sum_wrong at.result next.result sum.result x.class x.id x.n wrong))
     (c.tell_wrong.ensures x.carry.now x.chunk.now)
