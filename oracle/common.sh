@@ -31,7 +31,7 @@ take_options() {
 find_library() {
     if [ -z "$library" ]; then
         library=$root/target/staticlib/liborgnevis.a
-        [ -f "$library" ] || (cd "$root" && rt staticlib orgnevis)
+        [ -f "$library" ] || "$root/staticlib"
     fi
     [ -f "$library" ] || die "there is no $library"
 }
@@ -75,10 +75,7 @@ run_program() { # COMMAND
 emulator() {
     if [ "$(uname -m)" = x86_64 ]; then return; fi
     if [ -n "${EMULATOR:-}" ]; then echo "$EMULATOR"; return; fi
-    if command -v qemu-x86_64; then return; fi
-    kits=$(dirname "$(rt doc)")/../on/$(uname -m)/toolchain/bin/qemu-x86_64
-    [ -x "$kits" ] || die "the library is for x86-64: install qemu-user, or name an emulator in EMULATOR"
-    echo "$kits"
+    command -v qemu-x86_64 || die "the library is for x86-64: install qemu-user, or name an emulator in EMULATOR"
 }
 
 # The C compiler for x86-64, with the words that make it one.

@@ -1,8 +1,8 @@
-// The framer for C: five functions over arrays of words and lent bytes. include/orgnevis.h documents them. The writer's four stand
-// in writes.rt.
+// The framer for C: five functions over arrays of words and lent bytes. include/orgnevis.h documents them, and orgnevis_c exports
+// them. The writer's four stand in writes.rt.
 #![tactic(auto)]
 
-mod writes;
+pub mod writes;
 
 ghost use Rattle.std.specs.Prelude.{◌≡◌, length};
 ghost use Rattle.orgnevis.specs.Calls.{starts, opens, steps, closes, views};
@@ -12,8 +12,7 @@ use taking::Side;
 use words::{ModeRead, Read};
 
 // A fresh parser. Answers 0, 1, or 8 for a mode's number that isn't one, which writes nothing.
-#[unsafe(no_mangle)]
-pub extern "C" fn orgnevis_start(state: &mut [u64; 24], carry: &[u8], mode: u64, max: u16) -> u64
+pub fn orgnevis_start(state: &mut [u64; 24], carry: &[u8], mode: u64, max: u16) -> u64
     ensures value { result ≡ (starts state.old (length carry.now) mode max).number }
     ensures state_after { state.new ≡ (starts state.old (length carry.now) mode max).words }
 {
@@ -55,8 +54,7 @@ fn full_open(state: &mut [u64; 24], carry: &[u8], chunk: &[u8]) -> u64
 }
 
 // Opens an idle state on a chunk, at once where that goes. Answers 0, 2, 3 or 5.
-#[unsafe(no_mangle)]
-pub extern "C" fn orgnevis_open(state: &mut [u64; 24], carry: &[u8], chunk: &[u8]) -> u64
+pub fn orgnevis_open(state: &mut [u64; 24], carry: &[u8], chunk: &[u8]) -> u64
     ensures value { result ≡ (opens state.old carry.now chunk.now).number }
     ensures state_after { state.new ≡ (opens state.old carry.now chunk.now).words }
 {
@@ -94,13 +92,7 @@ fn full_step(state: &mut [u64; 24], carry: &mut [u8], chunk: &[u8], out: &mut [u
 }
 
 // The next answer of an open state, at once where that goes. Refusals 2, 4 and 6.
-#[unsafe(no_mangle)]
-pub extern "C" fn orgnevis_step(
-    state: &mut [u64; 24],
-    carry: &mut [u8],
-    chunk: &[u8],
-    out: &mut [u64; 8],
-)
+pub fn orgnevis_step(state: &mut [u64; 24], carry: &mut [u8], chunk: &[u8], out: &mut [u64; 8])
     ensures state_after { state.new ≡ (steps state.old carry.old chunk.now).words }
     ensures out_after { out.new ≡ (steps state.old carry.old chunk.now).out }
     ensures carry_after { carry.new ≡ (steps state.old carry.old chunk.now).carry }
@@ -157,13 +149,7 @@ fn full_close(state: &mut [u64; 24], carry: &mut [u8], chunk: &[u8], out: &mut [
 }
 
 // Closes an open state, at once where that goes. Refusals 2, 4 and 6.
-#[unsafe(no_mangle)]
-pub extern "C" fn orgnevis_close(
-    state: &mut [u64; 24],
-    carry: &mut [u8],
-    chunk: &[u8],
-    out: &mut [u64; 16],
-)
+pub fn orgnevis_close(state: &mut [u64; 24], carry: &mut [u8], chunk: &[u8], out: &mut [u64; 16])
     ensures state_after { state.new ≡ (closes state.old carry.old chunk.now).words }
     ensures out_after { out.new ≡ (closes state.old carry.old chunk.now).out }
     ensures carry_after { carry.new ≡ (closes state.old carry.old chunk.now).carry }
@@ -182,8 +168,7 @@ pub extern "C" fn orgnevis_close(
 }
 
 // Whether a place lies within its side: 0, or 7.
-#[unsafe(no_mangle)]
-pub extern "C" fn orgnevis_view(carry: &[u8], chunk: &[u8], side: u64, start: u64, len: u64) -> u64
+pub fn orgnevis_view(carry: &[u8], chunk: &[u8], side: u64, start: u64, len: u64) -> u64
     ensures { result ≡ views (length carry.now) (length chunk.now) side start len }
 {
     if side == 0 {

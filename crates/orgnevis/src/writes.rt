@@ -1,18 +1,11 @@
-// The writer for C: four functions over eight words and lent bytes. include/orgnevis.h documents them.
+// The writer for C: four functions over eight words and lent bytes. include/orgnevis.h documents them, and orgnevis_c exports them.
 ghost use Rattle.std.specs.Prelude.{◌≡◌};
 ghost use Rattle.writer_state.specs.Refusals.{leave_no};
 ghost use Rattle.writer.specs.Writing.{polling};
 ghost use Rattle.orgnevis.specs.Writes.{begins, adds, finishes};
 
 // Begins a frame with a payload of `len` bytes. Answers 0, 1 or 2; refused, the words are those of a bad state.
-#[unsafe(no_mangle)]
-pub extern "C" fn orgnevis_begin(
-    words: &mut [u64; 8],
-    memory: &mut [u8],
-    class: u8,
-    id: u8,
-    len: u64,
-) -> u64
+pub fn orgnevis_begin(words: &mut [u64; 8], memory: &mut [u8], class: u8, id: u8, len: u64) -> u64
     ensures value { result ≡ (begins words.old memory.old class id len).number }
     ensures words_after { words.new ≡ (begins words.old memory.old class id len).words }
     ensures memory_after { memory.new ≡ (begins words.old memory.old class id len).memory }
@@ -25,8 +18,7 @@ pub extern "C" fn orgnevis_begin(
 }
 
 // Writes the next piece of the payload. Answers 0, 3 or 4.
-#[unsafe(no_mangle)]
-pub extern "C" fn orgnevis_piece(words: &mut [u64; 8], memory: &mut [u8], bytes: &[u8]) -> u64
+pub fn orgnevis_piece(words: &mut [u64; 8], memory: &mut [u8], bytes: &[u8]) -> u64
     ensures value { result ≡ (adds words.old memory.old bytes.now).number }
     ensures words_after { words.new ≡ (adds words.old memory.old bytes.now).words }
     ensures memory_after { memory.new ≡ (adds words.old memory.old bytes.now).memory }
@@ -39,8 +31,7 @@ pub extern "C" fn orgnevis_piece(words: &mut [u64; 8], memory: &mut [u8], bytes:
 }
 
 // Writes the sum behind the payload. Answers 0, 3 or 5.
-#[unsafe(no_mangle)]
-pub extern "C" fn orgnevis_finish(words: &mut [u64; 8], memory: &mut [u8]) -> u64
+pub fn orgnevis_finish(words: &mut [u64; 8], memory: &mut [u8]) -> u64
     ensures value { result ≡ (finishes words.old memory.old).number }
     ensures words_after { words.new ≡ (finishes words.old memory.old).words }
     ensures memory_after { memory.new ≡ (finishes words.old memory.old).memory }
@@ -53,8 +44,7 @@ pub extern "C" fn orgnevis_finish(words: &mut [u64; 8], memory: &mut [u8]) -> u6
 }
 
 // Writes the MON-VER poll. Answers 0 or 2.
-#[unsafe(no_mangle)]
-pub extern "C" fn orgnevis_poll(memory: &mut [u8]) -> u64
+pub fn orgnevis_poll(memory: &mut [u8]) -> u64
     ensures value { result ≡ leave_no (polling memory.old).leave }
     ensures memory_after { memory.new ≡ (polling memory.old).memory }
 {
