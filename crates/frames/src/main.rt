@@ -5,8 +5,18 @@
 ghost use Rattle.std.specs.Prelude.{◌≡◌, true, ◌≤◌};
 ghost use Rattle.frames.specs.Words.{next_of, number_of, mode_of, max_at, parity_word};
 
-use libc::{STDERR_FILENO, STDIN_FILENO, STDOUT_FILENO};
+use std::env::FillError;
+use std::io::Read;
+use std::rt::{Env, Runtime};
+use std::{fs, io, str};
 use window::Mode;
+
+// The longest path of Linux, and the numbers of its errors where an argument is longer, or no text.
+const PATH_MAX: usize = 4096;
+
+const ENAMETOOLONG: i32 = 36;
+
+const EILSEQ: i32 = 84;
 
 // The number that a word says, if it says one.
 #[derive(Clone, Copy)]
@@ -80,7 +90,7 @@ fn mode_of(number: Number, parity: bool) -> Choice
 fn is_parity(s: &[u8]) -> bool
     ensures { (result ≡ true → s.now ≡ parity_word) × (s.now ≡ parity_word → result ≡ true) }
 {
-    check::same(s, b"parity")
+    s == b"parity".as_slice()
 }
 
 // Which argument MAX is.
@@ -92,112 +102,156 @@ fn max_at(parity: bool) -> usize
 }
 
 // The number that an argument says. One that is missing, or longer than any number here, says none.
-fn word(i: usize) -> Number {
+fn word(rt: &impl Env, i: usize) -> Number {
     let mut text = [0u8; 16];
-    let n = os::arg(i, &mut text);
-    read_number(&text[..n])
+    match rt.arg(i, &mut text) {
+        Ok(n) => read_number(&text[..n]),
+        Err(_) => Number::No,
+    }
 }
 
 // Whether the second argument is the word `parity`.
-fn has_parity() -> bool {
+fn has_parity(rt: &impl Env) -> bool {
     let mut text = [0u8; 16];
-    let n = os::arg(2, &mut text);
-    is_parity(&text[..n])
+    match rt.arg(2, &mut text) {
+        Ok(n) => is_parity(&text[..n]),
+        Err(_) => false,
+    }
 }
 
-fn is_help() -> bool {
+fn is_help(rt: &impl Env) -> bool {
     let mut text = [0u8; 4];
-    let n = os::arg(1, &mut text);
-    check::same(&text[..n], b"help")
+    match rt.arg(1, &mut text) {
+        Ok(n) => &text[..n] == b"help".as_slice(),
+        Err(_) => false,
+    }
 }
 
-fn say(line: &[u8]) {
-    io::write_all(STDOUT_FILENO, line);
+// Whether there is an argument of that place.
+fn is_given(rt: &impl Env, i: usize) -> bool {
+    let mut text = [0u8; 1];
+    !matches!(rt.arg(i, &mut text), Err(FillError::NotPresent))
 }
 
-fn help() {
-    say(b"frames MODE [parity] MAX FILE: a line for each frame of a capture\n\n");
-    say(b"  MODE    1: UBX. 2: UBX and RTCM. 3: UBX, RTCM and NMEA\n");
+fn say(rt: &impl Print, line: &str) {
+    let _ = rt.print(line);
+}
+
+fn help(rt: &impl Print) {
     say(
-        b"  parity  RTCM frames are read with their parity, and checked by it; without, they end before it\n",
+        rt,
+        "frames MODE [parity] MAX FILE: a line for each frame of a capture\n\n",
     );
-    say(b"  MAX     0 to 65535: a UBX frame whose payload is longer is passed over silently\n");
-    say(b"  FILE    the capture; - is standard input\n\n");
-    help_lines();
+    say(
+        rt,
+        "  MODE    1: UBX. 2: UBX and RTCM. 3: UBX, RTCM and NMEA\n",
+    );
+    say(
+        rt,
+        "  parity  RTCM frames are read with their parity, and checked by it; without, they end before it\n",
+    );
+    say(
+        rt,
+        "  MAX     0 to 65535: a UBX frame whose payload is longer is passed over silently\n",
+    );
+    say(rt, "  FILE    the capture; - is standard input\n\n");
+    help_lines(rt);
 }
 
 // The lines, one by one.
-fn help_lines() {
-    say(b"  at P ubx CC II len N           a UBX frame at byte P: class, id, payload length\n");
-    say(b"  at P rtcm len N                an RTCM frame, N its message's length\n");
-    say(b"  at P nmea len N                a sentence, N its length with CR LF\n");
-    say(b"  at P sum expect XXXX got XXXX ubx CC II len N\n");
+fn help_lines(rt: &impl Print) {
     say(
-        b"                                 a UBX frame whose sum is wrong: the sum received, the sum computed\n",
+        rt,
+        "  at P ubx CC II len N           a UBX frame at byte P: class, id, payload length\n",
     );
-    say(b"  at P parity expect XXXXXX got XXXXXX\n");
     say(
-        b"                                 an RTCM frame whose parity is wrong: the parity received, the parity computed\n",
+        rt,
+        "  at P rtcm len N                an RTCM frame, N its message's length\n",
     );
-    say(b"  at P room N                    N bytes that the carry's 16384 do not hold\n\n");
     say(
-        b"The first line has mode, setting, MAX and the carry's length; the last the bytes used, kept and lost.\n",
+        rt,
+        "  at P nmea len N                a sentence, N its length with CR LF\n",
+    );
+    say(rt, "  at P sum expect XXXX got XXXX ubx CC II len N\n");
+    say(
+        rt,
+        "                                 a UBX frame whose sum is wrong: the sum received, the sum computed\n",
+    );
+    say(rt, "  at P parity expect XXXXXX got XXXXXX\n");
+    say(
+        rt,
+        "                                 an RTCM frame whose parity is wrong: the parity received, the parity computed\n",
+    );
+    say(
+        rt,
+        "  at P room N                    N bytes that the carry's 16384 do not hold\n\n",
+    );
+    say(
+        rt,
+        "The first line has mode, setting, MAX and the carry's length; the last the bytes used, kept and lost.\n",
     );
 }
 
-fn refuse(why: &[u8]) {
-    io::write_all(STDERR_FILENO, why);
-    io::write_all(STDERR_FILENO, b"; frames help says more\n");
+fn refuse(rt: &impl Eprint, why: &str) {
+    let _ = eprintln!(rt; "{why}; frames help says more");
 }
 
-fn list(fd: i32, name: &[u8], mode: Mode, max: u16) {
+fn list(rt: &(impl Print + Eprint), input: &mut impl Read, name: &str, mode: Mode, max: u16) {
     let mut carry = [0u8; 16384];
     let mut chunk = [0u8; 16384];
     let mut out = [0u8; 65536];
-    lister::list(fd, name, mode, max, true, &mut carry, &mut chunk, &mut out);
+    lister::list(
+        rt, input, name, mode, max, true, &mut carry, &mut chunk, &mut out,
+    );
+}
+
+// A file, or standard input where the path is `-`.
+fn list_path(rt: &impl Runtime, path: &str, mode: Mode, max: u16) {
+    if path == "-" {
+        list(rt, &mut rt.reader(), "standard input", mode, max);
+        return;
+    }
+    match fs::open(rt, path) {
+        Ok(mut file) => list(rt, &mut file, path, mode, max),
+        Err(why) => edge::fail(rt, path, why),
+    }
 }
 
 // The argument at `at`: a file, or `-`.
-fn list_file(at: usize, mode: Mode, max: u16) {
-    let mut path = io::buffer();
-    let n = os::arg(at, &mut path);
-    if os::errno() != 0 {
-        os::fail(b"FILE");
+fn list_file(rt: &impl Runtime, at: usize, mode: Mode, max: u16) {
+    let mut text = [0u8; PATH_MAX];
+    let Ok(n) = rt.arg(at, &mut text) else {
+        edge::fail(rt, "FILE", io::Error::from_raw_os_error(ENAMETOOLONG));
         return;
-    }
-    if check::same(&path[..n], b"-") {
-        list(STDIN_FILENO, b"standard input", mode, max);
+    };
+    let Ok(path) = str::from_utf8(&text[..n]) else {
+        edge::fail(rt, "FILE", io::Error::from_raw_os_error(EILSEQ));
         return;
-    }
-    let fd = os::open_read(&path[..n]);
-    if fd < 0 {
-        os::fail(&path[..n]);
-        return;
-    }
-    list(fd, &path[..n], mode, max);
-    libc::close(fd);
+    };
+    list_path(rt, path, mode, max);
 }
 
-fn main() {
-    if is_help() {
-        help();
+fn main(rt: HostRuntime) {
+    if is_help(&rt) {
+        help(&rt);
         return;
     }
-    let parity = has_parity();
+    let parity = has_parity(&rt);
     let at = max_at(parity);
-    if os::arg_count() != at + 2 {
+    if !is_given(&rt, at + 1) || is_given(&rt, at + 2) {
         refuse(
-            b"frames takes MODE, MAX and FILE, and the word parity behind MODE where it is wanted",
+            &rt,
+            "frames takes MODE, MAX and FILE, and the word parity behind MODE where it is wanted",
         );
         return;
     }
-    let Choice::Of(mode) = mode_of(word(1), parity) else {
-        refuse(b"MODE is 1, 2 or 3");
+    let Choice::Of(mode) = mode_of(word(&rt, 1), parity) else {
+        refuse(&rt, "MODE is 1, 2 or 3");
         return;
     };
-    let Number::Is(max) = word(at) else {
-        refuse(b"MAX is 0 to 65535");
+    let Number::Is(max) = word(&rt, at) else {
+        refuse(&rt, "MAX is 0 to 65535");
         return;
     };
-    list_file(at + 1, mode, max);
+    list_file(&rt, at + 1, mode, max);
 }

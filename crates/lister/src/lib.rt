@@ -1,13 +1,13 @@
-// A listing of what a descriptor gives, on standard output: chunk by chunk, each answer's line, in lent memory.
+// A listing of what a reader gives, on standard output: chunk by chunk, each answer's line, in lent memory.
 #![tactic(auto)]
 
 ghost use Rattle.std.specs.Prelude.{◌≡◌, ◌+◌, ◌<◌, ◌≤◌, length};
 ghost use Rattle.lister.specs.Listing.{flushed, counted, Tells, Fills, Answers, Lists};
 
-use libc::STDOUT_FILENO;
 use lines::LONGEST;
 use opening::Closed;
 use state::State;
+use std::io::Read;
 use window::Mode;
 
 // Where a listing stands: the parser; used and lost of all closes so far, and kept of the last; how many bytes of lines wait in
@@ -72,7 +72,7 @@ fn fill(l: Listing, carry: &mut [u8], chunk: &[u8], out: &mut [u8]) -> Turn
 }
 
 // Writes the lines that wait. A write that fails is told on standard error, and nothing is written after it.
-fn flush(l: Listing, out: &[u8]) -> Listing
+fn flush(rt: &(impl Print + Eprint), l: Listing, out: &[u8]) -> Listing
     requires { l.waiting ≤ length out.now }
     ensures { result ≡ flushed l result.up }
 {
@@ -80,10 +80,7 @@ fn flush(l: Listing, out: &[u8]) -> Listing
     if !l.up {
         return Listing { waiting: 0, ..l };
     }
-    let up = io::write_all(STDOUT_FILENO, &out[..n]);
-    if !up {
-        os::fail(b"standard output");
-    }
+    let up = edge::write(rt, &out[..n]);
     Listing {
         waiting: 0,
         up,
@@ -92,7 +89,13 @@ fn flush(l: Listing, out: &[u8]) -> Listing
 }
 
 // The lines of all answers of an opened chunk; those that fill the buffer are written.
-fn answers(l: Listing, carry: &mut [u8], chunk: &[u8], out: &mut [u8]) -> Listing
+fn answers(
+    rt: &(impl Print + Eprint),
+    l: Listing,
+    carry: &mut [u8],
+    chunk: &[u8],
+    out: &mut [u8],
+) -> Listing
     requires { (l.waiting ≤ length out.old) × (84 ≤ length out.old) }
     ensures answers { Answers l carry.old chunk.now result carry.new }
     ensures waiting_in_bounds { result.waiting ≤ length out.old }
@@ -104,7 +107,7 @@ fn answers(l: Listing, carry: &mut [u8], chunk: &[u8], out: &mut [u8]) -> Listin
         if !filled.more {
             return listing;
         }
-        next = flush(listing, out);
+        next = flush(rt, listing, out);
     }
 }
 
@@ -123,7 +126,13 @@ fn count(l: Listing, closed: Closed) -> Listing
 }
 
 // A chunk: opened, its answers' lines, closed.
-fn through(l: Listing, carry: &mut [u8], chunk: &[u8], out: &mut [u8]) -> Listing
+fn through(
+    rt: &(impl Print + Eprint),
+    l: Listing,
+    carry: &mut [u8],
+    chunk: &[u8],
+    out: &mut [u8],
+) -> Listing
     requires { (l.waiting ≤ length out.old) × (84 ≤ length out.old) }
     ensures lists { Lists l carry.old chunk.now result carry.new }
     ensures waiting_in_bounds { result.waiting ≤ length out.old }
@@ -132,17 +141,17 @@ fn through(l: Listing, carry: &mut [u8], chunk: &[u8], out: &mut [u8]) -> Listin
     let opened = opening::open(idle, carry, chunk);
     let state = opened.state;
     let open = Listing { state, ..l };
-    let done = answers(open, carry, chunk, out);
+    let done = answers(rt, open, carry, chunk, out);
     let last = done.state;
     let closed = opening::close(last, carry, chunk);
     count(done, closed)
 }
 
-// One read, and its chunk. It goes on unless the input ends, or a read or a write fails; a read that fails is told on standard
-// error.
+// One read, and its chunk. It goes on unless the input ends, or a read or a write fails.
 fn read_on(
-    fd: i32,
-    name: &[u8],
+    rt: &(impl Print + Eprint),
+    input: &mut impl Read,
+    name: &str,
     l: Listing,
     carry: &mut [u8],
     chunk: &mut [u8],
@@ -151,48 +160,45 @@ fn read_on(
     requires { (l.waiting ≤ length out.old) × (84 ≤ length out.old) }
     ensures { result.listing.waiting ≤ length out.old }
 {
-    let got = libc::read(fd, chunk);
-    if got < 0 {
-        os::fail(name);
-    }
-    if got <= 0 {
+    let n = edge::read(rt, input, name, chunk);
+    if n == 0 {
         return Turn {
             listing: l,
             more: false,
         };
     }
-    let n = io::count(got, chunk);
-    let listing = through(l, carry, &chunk[..n], out);
+    let listing = through(rt, l, carry, &chunk[..n], out);
     let more = listing.up;
     Turn { listing, more }
 }
 
 // Room for one more line: those that wait are written where there is none.
-fn with_room(l: Listing, out: &[u8]) -> Listing
+fn with_room(rt: &(impl Print + Eprint), l: Listing, out: &[u8]) -> Listing
     requires { (l.waiting ≤ length out.now) × (84 ≤ length out.now) }
     ensures { result.waiting + 84 ≤ length out.now }
 {
     if LONGEST <= out.len() - l.waiting {
         return l;
     }
-    flush(l, out)
+    flush(rt, l, out)
 }
 
 // The last line, and what waits is written.
-fn finish(l: Listing, out: &mut [u8])
+fn finish(rt: &(impl Print + Eprint), l: Listing, out: &mut [u8])
     requires { (l.waiting ≤ length out.old) × (84 ≤ length out.old) }
 {
-    let last = with_room(l, out);
+    let last = with_room(rt, l, out);
     let waiting = ends::totals(out, last.waiting, last.used, last.kept, last.lost);
     let whole = Listing { waiting, ..last };
-    flush(whole, out);
+    flush(rt, whole, out);
 }
 
-// Lists the descriptor's bytes in chunks of at most `chunk`'s length, with `name` for what is told on standard error; `named`:
-// the frame of a wrong sum is named. Nothing says that an input ends, so the turns are counted down from a number that no run uses up.
+// Lists the reader's bytes in chunks of at most `chunk`'s length, with `name` for what is told on standard error; `named`: the
+// frame of a wrong sum is named. Nothing says that an input ends, so the reads are counted, up to a number that no run comes to.
 pub fn list(
-    fd: i32,
-    name: &[u8],
+    rt: &(impl Print + Eprint),
+    input: &mut impl Read,
+    name: &str,
     mode: Mode,
     max: u16,
     named: bool,
@@ -205,7 +211,7 @@ pub fn list(
     let opened = opening::start(carry, mode, max);
     let state = opened.state;
     let waiting = ends::header(out, 0, mode, max, carry.len());
-    let listing = Listing {
+    let mut now = Listing {
         state,
         used: 0,
         kept: 0,
@@ -214,16 +220,12 @@ pub fn list(
         up: true,
         named,
     };
-    let mut now = Turn {
-        listing,
-        more: true,
-    };
-    let mut turns = u64::MAX;
-    while now.more && 0 < turns {
-        turns -= 1;
-        let next = now.listing;
-        now = read_on(fd, name, next, carry, chunk, out);
+    for _ in 0..u64::MAX {
+        let turn = read_on(rt, input, name, now, carry, chunk, out);
+        now = turn.listing;
+        if !turn.more {
+            break;
+        }
     }
-    let last = now.listing;
-    finish(last, out)
+    finish(rt, now, out)
 }

@@ -1,16 +1,16 @@
 // Lists standard input in mode one, MAX 240, C 247.
 #![tactic(auto)]
 
-use libc::STDIN_FILENO;
 use window::Mode;
 
-fn main() {
+fn main(rt: HostRuntime) {
     let mut carry = [0u8; 247];
     let mut chunk = [0u8; 16384];
     let mut out = [0u8; 65536];
     lister::list(
-        STDIN_FILENO,
-        b"standard input",
+        &rt,
+        &mut rt.stdin(),
+        "standard input",
         Mode::One(false),
         240,
         false,

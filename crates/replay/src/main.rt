@@ -5,12 +5,15 @@
 
 mod report;
 
-ghost use Rattle.std.specs.Prelude.{◌≡◌, length};
+ghost use Rattle.std.specs.Prelude.{◌≡◌, ◌≤◌, length};
 
 use calls::Call;
 use records::List;
 use replaying::Turn;
 use report::Run;
+use std::fs;
+use std::io::Read;
+use std::rt::Files;
 
 // No carry and no chunk of a record is longer.
 const LONGEST: usize = 16385;
@@ -18,19 +21,33 @@ const LONGEST: usize = 16385;
 // Every byte of the carries and chunks of refusals.bin.
 const FILLER: u8 = 0x55;
 
+// Reads until `to` is full, the file ends or a read fails: how many bytes that gave.
+fn read_full(file: &mut impl Read, to: &mut [u8]) -> usize
+    ensures { result ≤ length to.new }
+{
+    let mut got = 0;
+    while got < to.len() {
+        match file.read(&mut to[got..]) {
+            Ok(0) | Err(_) => break,
+            Ok(n) => got += n,
+        }
+    }
+    got
+}
+
 // Reads a list's next bytes into a carry or chunk: whether there are so many. Those of refusals.bin are not in the file:
 // they are in memory from the beginning and stay there.
-fn filled(fd: i32, list: List, to: &mut [u8]) -> bool {
+fn filled(file: &mut impl Read, list: List, to: &mut [u8]) -> bool {
     match list {
-        List::Calls => io::read_full(fd, to) == to.len(),
+        List::Calls => read_full(file, to) == to.len(),
         List::Refusals => true,
     }
 }
 
 // The same for the carry after, which the list has where a byte of the carry changes.
-fn filled_after(fd: i32, list: List, words: &[u64; 34], to: &mut [u8]) -> bool {
+fn filled_after(file: &mut impl Read, list: List, words: &[u64; 34], to: &mut [u8]) -> bool {
     if records::changes(words) {
-        filled(fd, list, to)
+        filled(file, list, to)
     } else {
         true
     }
@@ -38,7 +55,7 @@ fn filled_after(fd: i32, list: List, words: &[u64; 34], to: &mut [u8]) -> bool {
 
 // Reads the bytes behind a record's head and replays it. `recorded` has the carry before, then the carry after.
 fn replay_rest(
-    fd: i32,
+    file: &mut impl Read,
     list: List,
     words: &[u64; 34],
     carry: &mut [u8],
@@ -51,14 +68,14 @@ fn replay_rest(
     if let Call::NoCall = call {
         return Turn::Bad;
     }
-    if !filled(fd, list, recorded) {
+    if !filled(file, list, recorded) {
         return Turn::Short;
     }
     carry.copy_from_slice(recorded);
-    if !filled(fd, list, chunk) {
+    if !filled(file, list, chunk) {
         return Turn::Short;
     }
-    if !filled_after(fd, list, words, recorded) {
+    if !filled_after(file, list, words, recorded) {
         return Turn::Short;
     }
     replaying::replay(call, words, carry, chunk, recorded)
@@ -66,7 +83,7 @@ fn replay_rest(
 
 // Replays the record of a head, in memory for a carry, a chunk and the carry that is recorded.
 fn replay_record(
-    fd: i32,
+    file: &mut impl Read,
     list: List,
     words: &[u64; 34],
     carry: &mut [u8],
@@ -88,7 +105,7 @@ fn replay_record(
         return Turn::Bad;
     }
     replay_rest(
-        fd,
+        file,
         list,
         words,
         &mut carry[..c],
@@ -99,7 +116,7 @@ fn replay_record(
 
 // Reads the head of a list's next record and replays it.
 fn replay_next(
-    fd: i32,
+    file: &mut impl Read,
     list: List,
     carry: &mut [u8],
     chunk: &mut [u8],
@@ -107,7 +124,7 @@ fn replay_next(
 ) -> Turn {
     let mut head = [0u8; 256];
     let size = records::head_size(list);
-    let got = io::read_full(fd, &mut head[..size]);
+    let got = read_full(file, &mut head[..size]);
     if got == 0 {
         return Turn::End;
     }
@@ -115,17 +132,21 @@ fn replay_next(
         return Turn::Short;
     }
     let words = records::words(list, &head);
-    replay_record(fd, list, &words, carry, chunk, recorded)
+    replay_record(file, list, &words, carry, chunk, recorded)
 }
 
-// Replays a list up to the first turn that isn't the same. A proved loop has to end, and nothing says that a file does:
-// the turns are counted down from a number that no list uses up.
-fn replay_all(fd: i32, list: List, carry: &mut [u8], chunk: &mut [u8], recorded: &mut [u8]) -> Run {
+// Replays a list up to the first turn that isn't the same. Nothing says that a file ends: the turns are counted, up to a number
+// that no list comes to.
+fn replay_all(
+    file: &mut impl Read,
+    list: List,
+    carry: &mut [u8],
+    chunk: &mut [u8],
+    recorded: &mut [u8],
+) -> Run {
     let mut tally = report::none();
-    let mut turns = u64::MAX;
-    while 0 < turns {
-        turns -= 1;
-        let turn = replay_next(fd, list, carry, chunk, recorded);
+    for _ in 0..u64::MAX {
+        let turn = replay_next(file, list, carry, chunk, recorded);
         match turn {
             Turn::Same(call) => tally = report::counted(tally, call),
             _ => return Run { tally, last: turn },
@@ -138,23 +159,20 @@ fn replay_all(fd: i32, list: List, carry: &mut [u8], chunk: &mut [u8], recorded:
 }
 
 // Replays the list of that name: whether it came to the list's end.
-fn replay_list(name: &[u8], list: List) -> bool {
-    let fd = os::open_read(name);
-    if fd < 0 {
-        report::say(name);
-        report::say(b": can't be opened\n");
+fn replay_list(rt: &(impl Files + Print), name: &str, list: List) -> bool {
+    let Ok(mut file) = fs::open(rt, name) else {
+        let _ = println!(rt; "{name}: can't be opened");
         return false;
-    }
+    };
     let mut carry = [FILLER; LONGEST];
     let mut chunk = [FILLER; LONGEST];
     let mut recorded = [FILLER; LONGEST];
-    let run = replay_all(fd, list, &mut carry, &mut chunk, &mut recorded);
-    libc::close(fd);
-    report::say_run(name, run)
+    let run = replay_all(&mut file, list, &mut carry, &mut chunk, &mut recorded);
+    report::say_run(rt, name, run)
 }
 
-fn main() {
-    if replay_list(b"calls.bin", List::Calls) {
-        replay_list(b"refusals.bin", List::Refusals);
+fn main(rt: HostRuntime) {
+    if replay_list(&rt, "calls.bin", List::Calls) {
+        replay_list(&rt, "refusals.bin", List::Refusals);
     }
 }

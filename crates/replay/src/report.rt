@@ -54,74 +54,73 @@ fn total(tally: Tally) -> u64 {
     plus(idle, on_chunk)
 }
 
-pub fn say(text: &[u8]) {
-    io::write_all(1, text);
+fn say(rt: &impl Print, text: &str) {
+    let _ = rt.print(text);
 }
 
-fn say_number(label: &[u8], n: u64) {
-    io::write_all(1, label);
-    io::print_decimal(1, n);
+fn say_number(rt: &impl Print, label: &str, n: u64) {
+    let _ = print!(rt; "{label}{n}");
 }
 
-fn say_call(call: Call) {
+fn say_call(rt: &impl Print, call: Call) {
     match call {
-        Call::Start { mode: _, max: _ } => say(b"start"),
-        Call::Open => say(b"open"),
-        Call::Step => say(b"step"),
-        Call::Close => say(b"close"),
+        Call::Start { mode: _, max: _ } => say(rt, "start"),
+        Call::Open => say(rt, "open"),
+        Call::Step => say(rt, "step"),
+        Call::Close => say(rt, "close"),
         Call::View {
             side: _,
             start: _,
             len: _,
-        } => say(b"view"),
-        Call::NoCall => say(b"no call"),
+        } => say(rt, "view"),
+        Call::NoCall => say(rt, "no call"),
     }
 }
 
-fn say_place(part: Part, at: u64) {
+fn say_place(rt: &impl Print, part: Part, at: u64) {
     match part {
-        Part::Out => say_number(b", out word ", at),
-        Part::State => say_number(b", state word ", at),
-        Part::Carry => say_number(b", carry byte ", at),
+        Part::Out => say_number(rt, ", out word ", at),
+        Part::State => say_number(rt, ", state word ", at),
+        Part::Carry => say_number(rt, ", carry byte ", at),
     }
 }
 
-fn say_difference(call: Call, difference: Difference) {
-    say(b" differs: ");
-    say_call(call);
+fn say_difference(rt: &impl Print, call: Call, difference: Difference) {
+    say(rt, " differs: ");
+    say_call(rt, call);
     let part = difference.part;
-    say_place(part, difference.at as u64);
-    say_number(b" is ", difference.is);
-    say_number(b", recorded ", difference.recorded);
-    say(b"\n");
+    say_place(rt, part, difference.at as u64);
+    say_number(rt, " is ", difference.is);
+    say_number(rt, ", recorded ", difference.recorded);
+    say(rt, "\n");
 }
 
-fn say_tally(tally: Tally) {
-    say_number(b" ", total(tally));
-    say_number(b" calls compared, 0 differ: start ", tally.start);
-    say_number(b", open ", tally.open);
-    say_number(b", step ", tally.step);
-    say_number(b", close ", tally.close);
-    say_number(b", view ", tally.view);
-    say(b"\n");
+fn say_tally(rt: &impl Print, tally: Tally) {
+    say_number(rt, " ", total(tally));
+    say_number(rt, " calls compared, 0 differ: start ", tally.start);
+    say_number(rt, ", open ", tally.open);
+    say_number(rt, ", step ", tally.step);
+    say_number(rt, ", close ", tally.close);
+    say_number(rt, ", view ", tally.view);
+    say(rt, "\n");
 }
 
 // Says how a list's run ended, with the number of the record, counted from 0, where it stopped short: whether it came
 // to the list's end.
-pub fn say_run(name: &[u8], run: Run) -> bool {
+pub fn say_run(rt: &impl Print, name: &str, run: Run) -> bool {
     let tally = run.tally;
     let last = run.last;
-    say(name);
-    say(b":");
+    say(rt, name);
+    say(rt, ":");
     if let Turn::End = last {
-        say_tally(tally);
+        say_tally(rt, tally);
         return true;
     }
-    say_number(b" record ", total(tally));
+    say_number(rt, " record ", total(tally));
     match last {
-        Turn::Differs(call, difference) => say_difference(call, difference),
-        Turn::Short => say(b" is cut short\n"),
-        _ => say(b" is no record\n"),
+        Turn::Differs(call, difference) => say_difference(rt, call, difference),
+        Turn::Short => say(rt, " is cut short\n"),
+        _ => say(rt, " is no record\n"),
     }
     false
 }

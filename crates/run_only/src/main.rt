@@ -7,84 +7,83 @@ use window::Mode;
 
 const MAX: u16 = 16;
 
-fn say(text: &[u8]) {
-    io::write_all(1, text);
+fn say(rt: &impl Print, text: &str) {
+    let _ = rt.print(text);
 }
 
-fn say_number(label: &[u8], n: usize) {
-    io::write_all(1, label);
-    io::print_decimal(1, n as u64);
+fn say_number(rt: &impl Print, label: &str, n: usize) {
+    let _ = print!(rt; "{label}{n}");
 }
 
 // What a step answers, as far as these runs come to it.
-fn say_answer(answer: Answer) {
+fn say_answer(rt: &impl Print, answer: Answer) {
     match answer {
         Answer::RtcmFrame { at, place } => {
-            say_number(b" rtcm frame at ", at);
-            say_number(b" length ", place.len);
+            say_number(rt, " rtcm frame at ", at);
+            say_number(rt, " length ", place.len);
         }
         Answer::NoRoom { at, size } => {
-            say_number(b" no room at ", at);
-            say_number(b" size ", size);
+            say_number(rt, " no room at ", at);
+            say_number(rt, " size ", size);
         }
-        Answer::NeedMore => say(b" need more"),
-        _ => say(b" another answer"),
+        Answer::NeedMore => say(rt, " need more"),
+        _ => say(rt, " another answer"),
     }
 }
 
 // Opens on a chunk, steps once and closes; says the answer and the close's counts.
-fn run_chunk(s: State, carry: &mut [u8], chunk: &[u8]) -> State {
+fn run_chunk(rt: &impl Print, s: State, carry: &mut [u8], chunk: &[u8]) -> State {
     let opened = opening::open(s, carry, chunk);
     let first = opened.state;
     let stepped = framer::step(first, carry, chunk);
     let answer = stepped.answer;
-    say_answer(answer);
+    say_answer(rt, answer);
     let second = stepped.state;
     let closed = opening::close(second, carry, chunk);
     let leave = closed.leave;
     match leave {
         Leave::Granted => {}
-        Leave::Denied(_) => say(b" refused"),
+        Leave::Denied(_) => say(rt, " refused"),
     };
-    say_number(b", used ", closed.used);
-    say_number(b" kept ", closed.kept);
-    say_number(b" lost ", closed.lost);
-    say(b"\n");
+    say_number(rt, ", used ", closed.used);
+    say_number(rt, " kept ", closed.kept);
+    say_number(rt, " lost ", closed.lost);
+    say(rt, "\n");
     closed.state
 }
 
 // '$' and letters A, one chunk, in a carry of 128 bytes, mode three.
-fn sentence(chunk: &[u8]) {
+fn sentence(rt: &impl Print, chunk: &[u8]) {
     let mut carry = [0u8; 128];
-    say_number(b"sentence ", chunk.len());
-    say(b":");
+    say_number(rt, "sentence ", chunk.len());
+    say(rt, ":");
     let started = opening::start(&carry, Mode::Three(false), MAX);
     let state = started.state;
-    run_chunk(state, &mut carry, chunk);
+    run_chunk(rt, state, &mut carry, chunk);
 }
 
 // An RTCM frame with n = 1,023, cut after 3 bytes, in mode two.
-fn rtcm(carry: &mut [u8]) {
+fn rtcm(rt: &impl Print, carry: &mut [u8]) {
     let head = [0xD3u8, 0x03, 0xFF];
     let body = [0u8; 1023];
-    say_number(b"carry ", carry.len());
-    say(b":");
+    say_number(rt, "carry ", carry.len());
+    say(rt, ":");
     let started = opening::start(carry, Mode::Two(false), MAX);
     let fresh = started.state;
-    let waiting = run_chunk(fresh, carry, &head);
-    say(b"  then:");
-    run_chunk(waiting, carry, &body);
+    let waiting = run_chunk(rt, fresh, carry, &head);
+    say(rt, "  then:");
+    run_chunk(rt, waiting, carry, &body);
 }
 
-fn main() {
+fn main(rt: HostRuntime) {
     let mut kept = [65u8; 82];
     kept[0] = 36;
-    sentence(&kept);
+    sentence(&rt, &kept);
     let mut drained = [65u8; 83];
     drained[0] = 36;
-    sentence(&drained);
+    sentence(&rt, &drained);
     let mut small = [0u8; 1025];
-    rtcm(&mut small);
+    rtcm(&rt, &mut small);
     let mut enough = [0u8; 1026];
-    rtcm(&mut enough);
+    rtcm(&rt, &mut enough);
 }

@@ -1,15 +1,15 @@
-// The stamps in what a descriptor gives, on standard output: chunk by chunk, a line for each frame of class 01 and id 21, in lent
+// The stamps in what a reader gives, on standard output: chunk by chunk, a line for each frame of class 01 and id 21, in lent
 // memory.
 #![tactic(auto)]
 
 ghost use Rattle.std.specs.Prelude.{◌≡◌, ◌+◌, ◌≤◌, length};
 ghost use Rattle.stamper.specs.Stamping.{flushed, counted, Makes, Tells, Steps, Through};
 
-use libc::STDOUT_FILENO;
 use opening::Closed;
 use stamp::Clock;
 use stamp_lines::Tally;
 use state::State;
+use std::io::Read;
 use window::Mode;
 
 // The longest line: the last one, with eight numbers of 20 digits, and its line end.
@@ -66,7 +66,7 @@ fn one(l: Stamping, carry: &mut [u8], chunk: &[u8], out: &mut [u8]) -> Turn
 }
 
 // Writes the lines that wait. A write that fails is told on standard error, and nothing is written after it.
-fn flush(l: Stamping, out: &[u8]) -> Stamping
+fn flush(rt: &(impl Print + Eprint), l: Stamping, out: &[u8]) -> Stamping
     requires { l.waiting ≤ length out.now }
     ensures { result ≡ flushed l result.up }
 {
@@ -74,10 +74,7 @@ fn flush(l: Stamping, out: &[u8]) -> Stamping
     if !l.up {
         return Stamping { waiting: 0, ..l };
     }
-    let up = io::write_all(STDOUT_FILENO, &out[..n]);
-    if !up {
-        os::fail(b"standard output");
-    }
+    let up = edge::write(rt, &out[..n]);
     Stamping {
         waiting: 0,
         up,
@@ -86,24 +83,30 @@ fn flush(l: Stamping, out: &[u8]) -> Stamping
 }
 
 // Room for one more line: those that wait are written where there is none.
-fn with_room(l: Stamping, out: &[u8]) -> Stamping
+fn with_room(rt: &(impl Print + Eprint), l: Stamping, out: &[u8]) -> Stamping
     requires { (l.waiting ≤ length out.now) × (218 ≤ length out.now) }
     ensures { Makes l (length out.now) result }
 {
     if LONGEST <= out.len() - l.waiting {
         return l;
     }
-    flush(l, out)
+    flush(rt, l, out)
 }
 
 // All steps of an opened chunk.
-fn steps(l: Stamping, carry: &mut [u8], chunk: &[u8], out: &mut [u8]) -> Stamping
+fn steps(
+    rt: &(impl Print + Eprint),
+    l: Stamping,
+    carry: &mut [u8],
+    chunk: &[u8],
+    out: &mut [u8],
+) -> Stamping
     requires { (l.waiting ≤ length out.old) × (218 ≤ length out.old) }
     ensures { Steps l carry.old chunk.now out.old result carry.new }
 {
     let mut next = l;
     loop {
-        let ready = with_room(next, out);
+        let ready = with_room(rt, next, out);
         let turn = one(ready, carry, chunk, out);
         let stamping = turn.stamping;
         if !turn.more {
@@ -128,7 +131,13 @@ fn count(l: Stamping, closed: Closed) -> Stamping
 }
 
 // A chunk: opened, stepped to its end, closed.
-pub fn through(l: Stamping, carry: &mut [u8], chunk: &[u8], out: &mut [u8]) -> Stamping
+pub fn through(
+    rt: &(impl Print + Eprint),
+    l: Stamping,
+    carry: &mut [u8],
+    chunk: &[u8],
+    out: &mut [u8],
+) -> Stamping
     requires { (l.waiting ≤ length out.old) × (218 ≤ length out.old) }
     ensures { Through l carry.old chunk.now out.old result carry.new }
 {
@@ -136,17 +145,17 @@ pub fn through(l: Stamping, carry: &mut [u8], chunk: &[u8], out: &mut [u8]) -> S
     let opened = opening::open(idle, carry, chunk);
     let state = opened.state;
     let begun = Stamping { state, ..l };
-    let done = steps(begun, carry, chunk, out);
+    let done = steps(rt, begun, carry, chunk, out);
     let last = done.state;
     let closed = opening::close(last, carry, chunk);
     count(done, closed)
 }
 
-// One read, and its chunk. It goes on unless the input ends, or a read or a write fails; a read that fails is told on standard
-// error.
+// One read, and its chunk. It goes on unless the input ends, or a read or a write fails.
 fn read_on(
-    fd: i32,
-    name: &[u8],
+    rt: &(impl Print + Eprint),
+    input: &mut impl Read,
+    name: &str,
     l: Stamping,
     carry: &mut [u8],
     chunk: &mut [u8],
@@ -155,38 +164,35 @@ fn read_on(
     requires { (l.waiting ≤ length out.old) × (218 ≤ length out.old) }
     ensures { result.stamping.waiting ≤ length out.old }
 {
-    let got = libc::read(fd, chunk);
-    if got < 0 {
-        os::fail(name);
-    }
-    if got <= 0 {
+    let n = edge::read(rt, input, name, chunk);
+    if n == 0 {
         return Turn {
             stamping: l,
             more: false,
         };
     }
-    let n = io::count(got, chunk);
-    let stamping = through(l, carry, &chunk[..n], out);
+    let stamping = through(rt, l, carry, &chunk[..n], out);
     let more = stamping.up;
     Turn { stamping, more }
 }
 
 // The last line, and what waits is written.
-fn finish(l: Stamping, out: &mut [u8])
+fn finish(rt: &(impl Print + Eprint), l: Stamping, out: &mut [u8])
     requires { (l.waiting ≤ length out.old) × (218 ≤ length out.old) }
 {
-    let last = with_room(l, out);
+    let last = with_room(rt, l, out);
     let tally = last.tally;
     let waiting = stamp_lines::totals(out, last.waiting, tally, last.used, last.kept, last.lost);
     let whole = Stamping { waiting, ..last };
-    flush(whole, out);
+    flush(rt, whole, out);
 }
 
-// The stamps in the descriptor's bytes, in chunks of at most `chunk`'s length, with `name` for what is told on standard error.
-// Nothing says that an input ends, so the turns are counted down from a number that no run uses up.
+// The stamps in the reader's bytes, in chunks of at most `chunk`'s length, with `name` for what is told on standard error. Nothing
+// says that an input ends, so the reads are counted, up to a number that no run comes to.
 pub fn stamps(
-    fd: i32,
-    name: &[u8],
+    rt: &(impl Print + Eprint),
+    input: &mut impl Read,
+    name: &str,
     mode: Mode,
     max: u16,
     carry: &mut [u8],
@@ -204,7 +210,7 @@ pub fn stamps(
         other: 0,
         sums: 0,
     };
-    let stamping = Stamping {
+    let mut now = Stamping {
         state,
         clock: Clock::Unset,
         tally,
@@ -214,16 +220,12 @@ pub fn stamps(
         waiting: 0,
         up: true,
     };
-    let mut now = Turn {
-        stamping,
-        more: true,
-    };
-    let mut turns = u64::MAX;
-    while now.more && 0 < turns {
-        turns -= 1;
-        let next = now.stamping;
-        now = read_on(fd, name, next, carry, chunk, out);
+    for _ in 0..u64::MAX {
+        let turn = read_on(rt, input, name, now, carry, chunk, out);
+        now = turn.stamping;
+        if !turn.more {
+            break;
+        }
     }
-    let last = now.stamping;
-    finish(last, out)
+    finish(rt, now, out)
 }
