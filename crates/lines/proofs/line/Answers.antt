@@ -2,7 +2,6 @@
 use native.Mathlib.Omega.{arith}
 use Rattle.lines.specs.Lines.{line}
 use Rattle.text.proofs.Laws.{behind, nothing}
-use borrow.Author.Rules.{rules}
 use Rattle.lines.proofs.line.Goals as goal
 
 pub returns-in-UbxFrame : goal.returns-in-UbxFrame
