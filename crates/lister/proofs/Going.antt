@@ -1,8 +1,6 @@
 -- The turns of `fill`: each puts one more line behind those before it.
 use Rattle.std.proofs.Common.{◌≡◌, ℕ, ◌+◌, ◌<◌, ◌≤◌, true, false, List, [], ◌++◌, length, sym, refl, ap, ◌∙◌, true≢false, append-nil}
 use Rattle.state.specs.declared.State.{State}
-use Rattle.state.specs.declared.Leave.{Leave, TheVariants.{Granted, Denied}}
-use Rattle.framer.specs.declared.Answer.{Answer, TheVariants.{UbxFrame, RtcmFrame, Sentence, WrongSum, NoRoom, NeedMore, Refused, WrongParity}}
 use Rattle.framer.specs.Step.{StepOut, step}
 use Rattle.text.specs.Text.{Puts}
 use Rattle.lines.specs.Lines.{line}

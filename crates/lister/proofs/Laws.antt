@@ -2,7 +2,6 @@
 use Rattle.std.proofs.Common.{◌≡◌, ℕ, suc, ◌+◌, ◌<◌, ◌≤◌, Bool, true, false, not, ◌||◌, ltb, List, [], length, sym, refl, true≢false, arith, le-ltb, lt-ltb}
 use Rattle.window.specs.declared.Mode.{Mode}
 use Rattle.state.specs.declared.State.{State}
-use Rattle.state.specs.declared.Leave.{Leave, TheVariants.{Granted, Denied}}
 use Rattle.state.specs.Words.{width}
 use Rattle.state.specs.Refusals.{may_use}
 use Rattle.state.proofs.Granted.{use_granted}

@@ -1,8 +1,6 @@
 -- The turns of `answers`: the lines of one filled buffer after the other are those of the chunk.
 use Rattle.std.proofs.Common.{◌≡◌, ℕ, ◌+◌, ◌-◌, ◌<◌, ◌≤◌, min, Bool, true, false, List, [], ◌∷◌, ◌++◌, length, sym, refl, ap, ◌∙◌, true≢false, append_assoc, append-nil, arith}
 use Rattle.state.specs.declared.State.{State}
-use Rattle.state.specs.declared.Leave.{Leave, TheVariants.{Granted, Denied}}
-use Rattle.framer.specs.declared.Answer.{Answer, TheVariants.{UbxFrame, RtcmFrame, Sentence, WrongSum, NoRoom, NeedMore, Refused, WrongParity}}
 use Rattle.framer.specs.Step.{step}
 use Rattle.lines.specs.Lines.{line}
 use Rattle.lister.specs.declared.Listing.{Listing}
@@ -12,7 +10,7 @@ use Rattle.lister.proofs.Laws.{Uses, line_uses}
 
 -- ---- runs of lines
 
-join : {named : Bool} {before : ℕ} {chunk : List ℕ} {s t u : State} {a b c x y : List ℕ} → Lines named before chunk s a x t b → Lines named before chunk t b y u c → Lines named before chunk s a (x ++ y) u c
+join : {named : Bool} {before : ℕ} {chunk : List ℕ} {s t : State} {a b x : List ℕ} {u : State} {c y : List ℕ} → Lines named before chunk s a x t b → Lines named before chunk t b y u c → Lines named before chunk s a (x ++ y) u c
 join {x = x} p no_line = rw append-nil p
 join {named} {before} {chunk} {x = x} p (next_line {text} {t} {mid} q e) =
     rw (← append_assoc x text (line named t.mode before (step t mid chunk).result.answer)) (next_line (join p q) e)
@@ -31,7 +29,7 @@ record Gets (s t : State) (text : List ℕ) : Type 0 where
   least : s.used ≤ t.used
   some : 0 < length text → Uses s t
 
-gets : {named : Bool} {before : ℕ} {chunk : List ℕ} {s t : State} {a b x : List ℕ} → Lines named before chunk s a x t b → Gets s t x
+gets : {named : Bool} {before : ℕ} {chunk : List ℕ} {s : State} {a : List ℕ} {t : State} {b x : List ℕ} → Lines named before chunk s a x t b → Gets s t x
 gets no_line = record { least = omega arith; some = λ h. absurd (omega arith) }
 gets {chunk = chunk} (next_line {t = t} {mid} p e) =
     let g = gets p in
