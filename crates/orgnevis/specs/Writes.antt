@@ -1,7 +1,7 @@
 -- What each of the writer's C functions answers and leaves: the operation's own definition, in words.
 use Rattle.std.specs.Prelude.{ℕ, List}
 use Rattle.writer_state.specs.Refusals.{leave_no}
-use Rattle.writer.specs.Writing.{WriteOut, beginning, adding, finishing, polling}
+use Rattle.writer.specs.Writing.{WriteOut, beginning, adding, finishing}
 use Rattle.writer_words.specs.Words.{with_writer, writer_by}
 
 -- a number answered, the writer's words, and the memory's bytes

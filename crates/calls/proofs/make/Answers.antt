@@ -1,7 +1,6 @@
 -- `calls::make` meets its contract: each C function's own, case by case.
 use mathlib.Core.Path.{◌∙◌}
 use Rattle.calls.specs.Made.{made}
-use borrow.Author.Rules.{rules}
 use Rattle.calls.proofs.make.Goals as goal
 
 pub returns-in-Start : goal.returns-in-Start

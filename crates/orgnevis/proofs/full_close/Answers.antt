@@ -5,7 +5,6 @@ use Rattle.opening.specs.Operations.{closing}
 use Rattle.opening.proofs.Determined.{closes_is}
 use Rattle.orgnevis.specs.Calls.{closes}
 use Rattle.words.proofs.Kept.{close_keeps, close_refused, same, closed_words_are}
-use borrow.Author.Rules.{rules}
 use Rattle.orgnevis.proofs.full_close.Goals as goal
 
 pub returns-in-NoState : goal.returns-in-NoState

@@ -5,7 +5,6 @@ use Rattle.opening.specs.Operations.{opening}
 use Rattle.opening.proofs.Determined.{opens_is}
 use Rattle.orgnevis.specs.Calls.{opens}
 use Rattle.words.proofs.Kept.{open_keeps, open_refused, same, opened_words_are}
-use borrow.Author.Rules.{rules}
 use Rattle.orgnevis.proofs.full_open.Goals as goal
 
 pub returns-in-NoState : goal.returns-in-NoState
@@ -18,7 +17,7 @@ unfolding opens
 returns-in-Denied c = let x = c.args in
     let s = c.in-Is.s in
     let e = sym c.read_state-read.ensures ∙ c.in-Is.is in
-    let r = opens_is (opening s x.carry.now x.chunk.now) c.«open».result c.«open».ensures in
+    let r = opens_is (opening s x.carry.now x.chunk.now) c.open-opened.result c.open-opened.ensures in
     let d = sym (ap (λ (o : Opened). o.leave) r) ∙ c.in-Denied.is in
     record { value = c.refusal_no.ensures ∙ rw (e, d); state_after = rw (e, open_refused s x.carry.now x.chunk.now _ d) (sym (same x.state.now s e)) }
 
@@ -27,7 +26,7 @@ unfolding opens
 returns-in-Granted c = let x = c.args in
     let s = c.in-Is.s in
     let e = sym c.read_state-read.ensures ∙ c.in-Is.is in
-    let r = opens_is (opening s x.carry.now x.chunk.now) c.«open».result c.«open».ensures in
+    let r = opens_is (opening s x.carry.now x.chunk.now) c.open-opened.result c.open-opened.ensures in
     let g = sym (ap (λ (o : Opened). o.leave) r) ∙ c.in-Granted.is in
     let k = open_keeps s x.carry.now x.chunk.now g in
     record { value = rw (e, g); state_after = c.write_opened.ensures ∙ rw (e, r) (sym (opened_words_are x.state.now s e x.carry.now x.chunk.now _ k)) }

@@ -4,7 +4,6 @@ use Rattle.framer.specs.Step.{step}
 use Rattle.framer.proofs.Determined.{steps_is}
 use Rattle.orgnevis.specs.Calls.{steps}
 use Rattle.words.proofs.Kept.{step_stays, stepped_words_are}
-use borrow.Author.Rules.{rules}
 use Rattle.orgnevis.proofs.full_step.Goals as goal
 
 pub returns-in-NoState : goal.returns-in-NoState

@@ -6,7 +6,6 @@ use Rattle.words.specs.Plainly.{ReadsPlainly}
 use Rattle.words.proofs.Kept.{close_keeps, closed_words_are}
 use Rattle.orgnevis.specs.Calls.{closes}
 use Rattle.quick_chunk.proofs.AtOnce.{closes_well}
-use borrow.Author.Rules.{rules}
 use Rattle.orgnevis.proofs.orgnevis_close.Goals as goal
 
 pub close_at_once-requires : goal.close_at_once-requires

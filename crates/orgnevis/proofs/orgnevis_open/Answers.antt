@@ -1,14 +1,13 @@
 -- `orgnevis::orgnevis_open` meets its contract: done at once or in full, the answer is the same.
 use mathlib.Core.Path.{◌≡◌, sym, ap, ◌∙◌}
-use mathlib.Core.Logic.{⊎_elim}
 use Rattle.opening.specs.declared.Opened.{Opened}
 use Rattle.words.specs.declared.Read.TheVariants.{Is}
 use Rattle.words.specs.Plainly.{ReadsPlainly}
 use Rattle.words.proofs.Kept.{open_keeps, opened_words_are}
 use Rattle.orgnevis.specs.Calls.{opens}
 use Rattle.quick_chunk.proofs.AtOnce.{opens_well}
-use borrow.Author.Rules.{rules}
 use Rattle.orgnevis.proofs.orgnevis_open.Goals as goal
+use Rattle.orgnevis.proofs.orgnevis_open.Goals.{then-opens+else-open_at_once, else-opens}
 
 pub open_at_once-requires : goal.open_at_once-requires
 open_at_once-requires c = c.opens.ensures c.if-opens.true
@@ -25,5 +24,8 @@ returns-then-open_at_once c = let x = c.args in
 
 pub returns-after-opens : goal.returns-after-opens
 returns-after-opens c = let x = c.args in
-    let same : c.if-opens.state ≡ x.state.now = ⊎_elim (λ w. w.4 ∙ w.2.ensures ∙ rw w.3.left) (λ w. w.1) c.if-opens.branch in
+    let same : c.if-opens.state ≡ x.state.now = elim c.if-opens.branch [
+      | then-opens+else-open_at_once w ↦ w.state-is ∙ w.open_at_once.ensures ∙ rw w.if-open_at_once.false
+      | else-opens w ↦ w.state-is
+    ] in
     rw (← same) c.full_open-in-Is.ensures

@@ -4,7 +4,6 @@ use lib.ListN.{length}
 use Rattle.opening.specs.Operations.{start}
 use Rattle.opening.proofs.Determined.{opens_is}
 use Rattle.orgnevis.specs.Calls.{starts}
-use borrow.Author.Rules.{rules}
 use Rattle.orgnevis.proofs.orgnevis_start.Goals as goal
 
 pub returns-in-NoMode : goal.returns-in-NoMode

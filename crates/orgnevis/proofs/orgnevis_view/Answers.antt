@@ -3,7 +3,6 @@ use mathlib.Core.Path.{◌∙◌}
 use borrow.Author.Tests.{eq-eqb, ne_eqb}
 use Rattle.window.specs.Pick.{pick}
 use Rattle.orgnevis.specs.Calls.{views}
-use borrow.Author.Rules.{rules}
 use Rattle.orgnevis.proofs.orgnevis_view.Goals as goal
 
 pub returns-then-side-eq0 : goal.returns-then-side-eq0

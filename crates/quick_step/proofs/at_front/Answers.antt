@@ -2,7 +2,6 @@
 use Rattle.quick_words.proofs.Written.{leaves_by}
 use Rattle.quick_frames.proofs.Ways.{first_begins, first_none, first_sync}
 use Rattle.quick_step.proofs.Noise.{empty_waits}
-use borrow.Author.Rules.{rules}
 use Rattle.quick_step.proofs.at_front.Goals as goal
 
 pub returns-then-f-eq0 : goal.returns-then-f-eq0

@@ -8,7 +8,6 @@ use Rattle.state.proofs.Window.{drain_zero}
 use Rattle.opening.proofs.Slices.{syncs_at_once}
 use Rattle.quick_frames.proofs.Ways.{slices}
 use Rattle.quick_step.proofs.Noise.{window_ahead, drain_ahead}
-use borrow.Author.Rules.{rules}
 use Rattle.quick_step.proofs.past_noise.Goals as goal
 
 pub returns-then-is_sync : goal.returns-then-is_sync

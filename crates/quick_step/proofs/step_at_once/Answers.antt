@@ -9,7 +9,6 @@ use Rattle.state.specs.Words.{window, width}
 use Rattle.state.specs.Ready.{Ready}
 use Rattle.framer.specs.Step.{step_from}
 use Rattle.quick_step.proofs.Noise.{noise_ready, noise_front, noise_passed}
-use borrow.Author.Rules.{rules}
 use Rattle.quick_step.proofs.step_at_once.Goals as goal
 
 pub at_front-requires : goal.at_front-requires

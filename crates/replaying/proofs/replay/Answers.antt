@@ -1,14 +1,10 @@
 -- `replaying::replay` meets its contract: the same is said exactly of a call that hands back what its record says.
-use Rattle.calls.specs.Made.{made}
 use Rattle.replaying.proofs.Laws.{Judged, judge, turn_same, turn_differs}
-use borrow.Author.Rules.{rules}
 use Rattle.replaying.proofs.replay.Goals as goal
+use Rattle.replaying.proofs.replay.Goals.{After-first-outcome}
 
 -- where all three parts are compared
-abbrev st : tie.After-first2 → tie.Start
-st c = c
-
-judged : (c : tie.After-first2) → Judged c.first-outcome.result (st c).args.call (st c).args.words.now (st c).args.carry.now (st c).args.chunk.now (st c).args.recorded.now
+judged : (c : After-first-outcome) → Judged c.first-outcome.result c.args.call c.args.words.now c.args.carry.now c.args.chunk.now c.args.recorded.now
 judged c =
     let s = c.state_before-state.ensures in
     let made = c.make-out.ensures in
@@ -21,7 +17,7 @@ judged c =
     c.carry-in_carry.ensures
 
 pub returns-in-Same : goal.returns-in-Same
-returns-in-Same c = turn_same (judged c) c.in-Same.is
+returns-in-Same c = turn_same (judged (goal.at.returns-in-Same c).After-first-outcome) c.in-Same.is
 
 pub returns-in-Differs : goal.returns-in-Differs
-returns-in-Differs c = turn_differs (judged c) _ c.in-Differs.is
+returns-in-Differs c = turn_differs (judged (goal.at.returns-in-Differs c).After-first-outcome) _ c.in-Differs.is

@@ -1,6 +1,5 @@
 -- `orgnevis::writes::orgnevis_begin` meets its contract.
 use mathlib.Core.Path.{◌∙◌}
-use borrow.Author.Rules.{rules}
 use Rattle.orgnevis.proofs.writes.orgnevis_begin.Goals as goal
 
 pub returns : goal.returns

@@ -1,6 +1,5 @@
 -- `orgnevis::writes::orgnevis_piece` meets its contract.
 use mathlib.Core.Path.{◌∙◌}
-use borrow.Author.Rules.{rules}
 use Rattle.orgnevis.proofs.writes.orgnevis_piece.Goals as goal
 
 pub returns : goal.returns
