@@ -1,5 +1,4 @@
 -- `stamp_lines::by_reading` meets its contract: each reading has its count.
-use Rattle.std.proofs.Common.{rules}
 use Rattle.stamp_lines.proofs.by_reading.Goals as goal
 
 pub returns-in-Stamp : goal.returns-in-Stamp

@@ -1,5 +1,5 @@
 -- `stamp_lines::frame` meets its contract: the class decides, and the id.
-use Rattle.std.proofs.Common.{rules, eq-eqb, ne_eqb}
+use Rattle.std.proofs.Common.{eq-eqb, ne_eqb}
 use Rattle.window.specs.Pick.{pick}
 use Rattle.stamp_lines.specs.Notes.{frame}
 use Rattle.stamp_lines.proofs.frame.Goals as goal

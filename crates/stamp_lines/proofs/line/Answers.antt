@@ -1,5 +1,5 @@
 -- `stamp_lines::line` meets its contract: the position, and behind it what the frame was read to.
-use Rattle.std.proofs.Common.{arith, rules}
+use Rattle.std.proofs.Common.{arith}
 use Rattle.text.proofs.Laws.{behind, nothing}
 use Rattle.stamp_lines.proofs.line.Goals as goal
 

@@ -1,5 +1,4 @@
 -- `stamp_lines::noted` meets its contract: a UBX frame by its class and id.
-use Rattle.std.proofs.Common.{rules}
 use Rattle.stamp_lines.proofs.noted.Goals as goal
 
 pub returns-in-UbxFrame : goal.returns-in-UbxFrame

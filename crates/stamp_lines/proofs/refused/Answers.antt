@@ -1,5 +1,4 @@
 -- `stamp_lines::refused` meets its contract: each refusal's words.
-use Rattle.std.proofs.Common.{rules}
 use Rattle.stamp_lines.proofs.refused.Goals as goal
 
 pub returns-in-NotThisMessage : goal.returns-in-NotThisMessage

@@ -1,5 +1,4 @@
 -- `stamp_lines::said` meets its contract: the words of each reading.
-use Rattle.std.proofs.Common.{rules}
 use Rattle.stamp_lines.proofs.said.Goals as goal
 
 pub returns-in-Stamp : goal.returns-in-Stamp

@@ -1,5 +1,4 @@
 -- `stamp_lines::tallied` meets its contract: each note has its count.
-use Rattle.std.proofs.Common.{rules}
 use Rattle.stamp_lines.proofs.tallied.Goals as goal
 
 pub returns-in-Time : goal.returns-in-Time

@@ -1,5 +1,5 @@
 -- `stamp_lines::tallies` meets its contract: its pieces, one behind the other.
-use Rattle.std.proofs.Common.{◌≤◌, length, arith, rules}
+use Rattle.std.proofs.Common.{◌≤◌, length, arith}
 use Rattle.text.proofs.Laws.{behind}
 use Rattle.stamp_lines.proofs.tallies.Goals as goal
 
