@@ -10,7 +10,7 @@ use lib.Seq.{drop-cons}
 use Rattle.window.specs.declared.Mode.TheVariants.{One, Two, Three}
 use Rattle.window.specs.Pick.{pick}
 use Rattle.text.specs.Text.{ascii}
-use Rattle.frames.specs.declared.Number.{Number, TheVariants.{Is, No}}
+use Rattle.frames.specs.declared.Number.{TheVariants.{Is, No}}
 use Rattle.frames.specs.declared.Choice.TheVariants.{Of, None}
 use Rattle.frames.specs.Words.{next_of, digits_to, number_of, mode_of}
 

@@ -1,5 +1,5 @@
 -- Steps with a chunk get on, and end in one way only.
-use Rattle.std.proofs.Common.{◌≡◌, ℕ, true, false, List, sym, refl, ◌∙◌, true≢false}
+use Rattle.std.proofs.Common.{◌≡◌, ℕ, true, List, sym, refl, ◌∙◌, true≢false}
 use Rattle.framer.specs.declared.Answer.{Answer, TheVariants.{UbxFrame, RtcmFrame, Sentence, WrongSum, NoRoom, NeedMore, Refused, WrongParity}}
 use Rattle.lister.specs.Listing.{has_line}
 use Rattle.lister.proofs.Laws.{Uses, line_uses}

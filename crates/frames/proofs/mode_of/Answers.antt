@@ -1,7 +1,6 @@
 -- `frames::mode_of` meets its contract.
 use borrow.Author.Tests.{eq-eqb, ne_eqb}
 use Rattle.window.specs.Pick.{pick}
-use borrow.Author.Rules.{rules}
 use Rattle.frames.proofs.mode_of.Goals as goal
 
 pub returns-then-n-eq1 : goal.returns-then-n-eq1

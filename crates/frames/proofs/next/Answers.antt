@@ -3,7 +3,6 @@ use Prim.Native.Nat.{◌+◌, ◌-◌, ◌*◌}
 use borrow.Author.Tests.{lt-ltb, le-ltb}
 use Rattle.window.specs.Pick.{pick}
 use Rattle.frames.specs.Words.{next_of}
-use borrow.Author.Rules.{rules}
 use Rattle.frames.proofs.next.Goals as goal
 
 pub returns-then-d-lt48 : goal.returns-then-d-lt48

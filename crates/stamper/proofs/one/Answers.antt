@@ -1,7 +1,6 @@
 -- `stamper::one` meets its contract: the step is its definition; its line says what it brought, and that is counted.
 use Rattle.stamp.proofs.Determined.{times_is}
 use Rattle.stamper.specs.Stamping.{point_of, timed}
-use Rattle.std.proofs.Common.{rules}
 use Rattle.stamper.proofs.one.Goals as goal
 
 pub returns : goal.returns
@@ -9,7 +8,7 @@ returns c =
     let x = c.args in
     let s = c.step-timed in
     let o = timed x.chunk.now (point_of x.l x.carry.now) in
-    let e = times_is o s.result s.new.1.1.0 s.ensures in
+    let e = times_is o s.result s.new.carry s.ensures in
     record {
       stamping = rw (c.tallied-tally.ensures, c.noted-note.ensures, e.0);
       carries = e.1;

@@ -1,9 +1,6 @@
--- `stamper::stamps` is safe and ends: the turns are counted down, and what waits stays within the buffer.
-use Rattle.std.proofs.Common.{◌≡◌, ◌≤◌, length, refl, ◌∙◌, arith, rules, ltb-true}
+-- `stamper::stamps` is safe: what waits stays within the buffer.
+use Rattle.std.proofs.Common.{◌≡◌, ◌≤◌, length}
 use Rattle.stamper.proofs.stamps.Given as goal
 
-abbrev pub invariant-loop-now : goal.invariant-loop-now
-invariant-loop-now l = (l.now.stamping.waiting ≤ length l.out) × ((length l.out ≡ length l.initial.out) × ((length l.carry ≡ length l.initial.carry) × (length l.chunk ≡ length l.initial.chunk)))
-
-abbrev pub decreases-loop-now : goal.decreases-loop-now
-decreases-loop-now l = l.turns
+abbrev pub invariant-loop : goal.invariant-loop
+invariant-loop g l = (l.now.waiting ≤ length l.out) × (length l.out ≡ length l.fn.out)
