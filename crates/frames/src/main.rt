@@ -196,7 +196,7 @@ fn refuse(rt: &impl Eprint, why: &str) {
     let _ = eprintln!(rt; "{why}; frames help says more");
 }
 
-fn list(rt: &(impl Print + Eprint), input: &mut impl Read, name: &str, mode: Mode, max: u16) {
+fn list(rt: &(impl Print + Eprint), input: &mut impl Read, name: &[u8], mode: Mode, max: u16) {
     let mut carry = [0u8; 16384];
     let mut chunk = [0u8; 16384];
     let mut out = [0u8; 65536];
@@ -208,12 +208,12 @@ fn list(rt: &(impl Print + Eprint), input: &mut impl Read, name: &str, mode: Mod
 // A file, or standard input where the path is `-`.
 fn list_path(rt: &impl Runtime, path: &str, mode: Mode, max: u16) {
     if path == "-" {
-        list(rt, &mut rt.reader(), "standard input", mode, max);
+        list(rt, &mut rt.reader(), b"standard input", mode, max);
         return;
     }
     match fs::open(rt, path) {
-        Ok(mut file) => list(rt, &mut file, path, mode, max),
-        Err(why) => edge::fail(rt, path, why),
+        Ok(mut file) => list(rt, &mut file, path.as_bytes(), mode, max),
+        Err(why) => edge::fail(rt, path.as_bytes(), why),
     }
 }
 
@@ -221,11 +221,11 @@ fn list_path(rt: &impl Runtime, path: &str, mode: Mode, max: u16) {
 fn list_file(rt: &impl Runtime, at: usize, mode: Mode, max: u16) {
     let mut text = [0u8; PATH_MAX];
     let Ok(n) = rt.arg(at, &mut text) else {
-        edge::fail(rt, "FILE", io::Error::from_raw_os_error(ENAMETOOLONG));
+        edge::fail(rt, b"FILE", io::Error::from_raw_os_error(ENAMETOOLONG));
         return;
     };
     let Ok(path) = str::from_utf8(&text[..n]) else {
-        edge::fail(rt, "FILE", io::Error::from_raw_os_error(EILSEQ));
+        edge::fail(rt, b"FILE", io::Error::from_raw_os_error(EILSEQ));
         return;
     };
     list_path(rt, path, mode, max);

@@ -151,7 +151,7 @@ fn through(
 fn read_on(
     rt: &(impl Print + Eprint),
     input: &mut impl Read,
-    name: &str,
+    name: &[u8],
     l: Listing,
     carry: &mut [u8],
     chunk: &mut [u8],
@@ -198,7 +198,7 @@ fn finish(rt: &(impl Print + Eprint), l: Listing, out: &mut [u8])
 pub fn list(
     rt: &(impl Print + Eprint),
     input: &mut impl Read,
-    name: &str,
+    name: &[u8],
     mode: Mode,
     max: u16,
     named: bool,

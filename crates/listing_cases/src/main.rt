@@ -24,14 +24,14 @@ fn list(
     let mut file = match fs::open(rt, name) {
         Ok(file) => file,
         Err(why) => {
-            edge::fail(rt, name, why);
+            edge::fail(rt, name.as_bytes(), why);
             return;
         }
     };
     lister::list(
         rt,
         &mut file,
-        name,
+        name.as_bytes(),
         mode,
         max,
         false,

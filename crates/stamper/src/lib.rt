@@ -155,7 +155,7 @@ pub fn through(
 fn read_on(
     rt: &(impl Print + Eprint),
     input: &mut impl Read,
-    name: &str,
+    name: &[u8],
     l: Stamping,
     carry: &mut [u8],
     chunk: &mut [u8],
@@ -192,7 +192,7 @@ fn finish(rt: &(impl Print + Eprint), l: Stamping, out: &mut [u8])
 pub fn stamps(
     rt: &(impl Print + Eprint),
     input: &mut impl Read,
-    name: &str,
+    name: &[u8],
     mode: Mode,
     max: u16,
     carry: &mut [u8],

@@ -10,7 +10,7 @@ fn main(rt: HostRuntime) {
     stamper::stamps(
         &rt,
         &mut rt.stdin(),
-        "standard input",
+        b"standard input",
         Mode::One(false),
         240,
         &mut carry,
