@@ -3,19 +3,40 @@
 
 ghost use Rattle.std.specs.Prelude.{◌≤◌, length};
 
-use std::io::Read;
+use std::io::{Cursor, Read, Write};
 use std::{io, str};
+
+// Puts the system's words for an error to the front of the text: how many bytes they are. Behind them stands the error's number, in
+// brackets, where it has one.
+fn put(why: &io::Error, text: &mut [u8]) -> usize
+    ensures { result ≤ length text.new }
+{
+    let mut out = Cursor::new(&mut text[..]);
+    let _ = write!(out, "{why}");
+    let end = out.position() as usize;
+    let end = end.min(text.len());
+    if why.raw_os_error().is_none() {
+        return end;
+    }
+    match text[..end].iter().rposition(|&b| b == b'(') {
+        Some(at) => at.saturating_sub(1),
+        None => end,
+    }
+}
 
 // Says on standard error what failed, and why. Of a name that is no text, the bytes that are none are escaped.
 pub fn fail(rt: &impl Eprint, name: &[u8], why: io::Error) {
+    let mut text = [0u8; 256];
+    let n = put(&why, &mut text);
+    let words = str::from_utf8(&text[..n]).unwrap_or("");
     let _ = match str::from_utf8(name) {
-        Ok(text) => eprintln!(rt; "{text}: {why}"),
-        Err(_) => eprintln!(rt; "{}: {why}", name.escape_ascii()),
+        Ok(name) => eprintln!(rt; "{name}: {words}"),
+        Err(_) => eprintln!(rt; "{}: {words}", name.escape_ascii()),
     };
 }
 
-// One read, to the front of the chunk: how many bytes it gave. None where the input has ended; nor where the read fails, which is
-// told with the input's name.
+// One read, to the front of the chunk: how many bytes it gave. It gives 0 where the input has ended, and where the read fails, which
+// is told with the input's name.
 pub fn read(rt: &impl Eprint, input: &mut impl Read, name: &[u8], chunk: &mut [u8]) -> usize
     ensures { result ≤ length chunk.new }
 {

@@ -1,7 +1,15 @@
 -- Texts put into a buffer, one behind the other, are one text.
-use Rattle.std.proofs.Common.{◌≡◌, ℕ, ◌+◌, ◌≤◌, List, [], ◌++◌, length, take, drop, sym, ap, ◌∙◌, append_assoc, append-nil, add-zero, arith, length-append, length-drop, take-append-drop, length-take-le, drop-drop, take_at}
-use lib.Seq.{drop-append-add}
+use Rattle.std.proofs.Common.{◌≡◌, ℕ, ◌+◌, ◌-◌, ◌≤◌, List, [], ◌++◌, length, take, drop, sym, ap, ◌∙◌, append_assoc, append-nil, add-zero, arith, length-append, length-drop, take-append-drop, drop_of_length-le, length-take-le, take_all, drop-drop, take_at}
+use lib.Seq.{drop-append-add, take-length}
 use Rattle.text.specs.Text.{put, Puts}
+
+-- a text copied to the front of the part from a place on
+pub copied : (out s : List ℕ) (at : ℕ) → at + length s ≤ length out
+    → take at out ++ ((take (length s) s ++ drop (length s) (take (length out - at) (drop at out))) ++ drop (length out - at) (drop at out)) ≡ put out at s
+copied out s at h =
+    let all : take (length out - at) (drop at out) ≡ drop at out = take_all (length out - at) (drop at out) (simp length-drop (omega arith)) in
+    let none : drop (length out - at) (drop at out) ≡ [] = drop_of_length-le (drop at out) {i = length out - at} (simp length-drop (omega arith)) in
+    rw (all, none, append-nil, take-length s, drop-drop (length s) at out, ← append_assoc (take at out) s (drop (at + length s) out))
 
 put_put : (out s t : List ℕ) (at : ℕ) → at ≤ length out → put (put out at s) (at + length s) t ≡ put out at (s ++ t)
 put_put out s t at h =
