@@ -161,7 +161,8 @@ fn replay_all(
 // Replays the list of that name: whether it came to the list's end.
 fn replay_list(rt: &(impl Files + Print), name: &str, list: List) -> bool {
     let Ok(mut file) = fs::open(rt, name) else {
-        let _ = println!(rt; "{name}: can't be opened");
+        report::say(rt, name);
+        report::say(rt, ": can't be opened\n");
         return false;
     };
     let mut carry = [FILLER; LONGEST];

@@ -54,7 +54,7 @@ fn total(tally: Tally) -> u64 {
     plus(idle, on_chunk)
 }
 
-fn say(rt: &impl Print, text: &str) {
+pub fn say(rt: &impl Print, text: &str) {
     let _ = rt.print(text);
 }
 
