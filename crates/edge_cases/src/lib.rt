@@ -92,7 +92,7 @@ mod tests {
         lister::list(
             sink,
             source,
-            "source",
+            b"source",
             Mode::One(false),
             240,
             false,
@@ -110,7 +110,7 @@ mod tests {
         stamper::stamps(
             sink,
             source,
-            "source",
+            b"source",
             Mode::One(false),
             240,
             &mut carry,

@@ -225,7 +225,7 @@ fn list_file(rt: &impl Runtime, at: usize, mode: Mode, max: u16) {
         return;
     };
     let Ok(path) = str::from_utf8(&text[..n]) else {
-        edge::fail(rt, b"FILE", io::Error::from_raw_os_error(EILSEQ));
+        edge::fail(rt, &text[..n], io::Error::from_raw_os_error(EILSEQ));
         return;
     };
     list_path(rt, path, mode, max);
