@@ -24,7 +24,7 @@ fn put(why: &io::Error, text: &mut [u8]) -> usize
     }
 }
 
-// Says on standard error what failed, and why. Of a name that is no text, the bytes that are none are escaped.
+// Says on standard error what failed, and why. A name that is no text is told as `escape_ascii` writes it.
 pub fn fail(rt: &impl Eprint, name: &[u8], why: io::Error) {
     let mut text = [0u8; 256];
     let n = put(&why, &mut text);
