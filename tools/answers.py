@@ -177,7 +177,7 @@ def turn(crate, fn, it, root):
     comment = [l for l in head.split("\n") if l.startswith("--")]
     uses = [l for l in head.split("\n") if l.startswith("use ") and not re.search(r"\.(Statement\.\{statement\}|Tie as tie)$", l)]
     module = f"Rattle.{crate}.proofs.{fn}"
-    invariants, answers, renamed, look = [], [], {}, []
+    invariants, answers, look = [], [], []
     order = list(names.order)
     needs = [b for b in body if (m := signature(b)) and m[4].startswith("Need-")]
     by_place = len(needs) == len(order)
@@ -250,7 +250,6 @@ def turn(crate, fn, it, root):
         args = [a for a in args if a != "κs" or re.search(r"\bκs\b", term)]
         lead = [l for l in b[: m.start()].split("\n") if l.strip()]
         unf = [l for l in b.split("\n") if l.startswith("unfolding ")]
-        renamed[name] = goal
         answers.append((goal, "\n".join(lead + [f"pub {goal} : goal.{goal}"] + unf + [f"{goal} {' '.join(args)} ={term}"])))
     for n in ("Invariants.antt", "Answers.antt"):
         p = os.path.join(folder, n)

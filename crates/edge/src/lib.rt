@@ -1,7 +1,8 @@
 // The edge of a program: a chunk read, lines written to standard output, and what fails there told on standard error.
 #![tactic(auto)]
 
-ghost use Rattle.std.specs.Prelude.{◌≤◌, length};
+ghost use Rattle.std.specs.Prelude.{◌≤◌, length, take};
+ghost use Rattle.std.specs.Io.KnownBytes.{Consumes};
 
 use std::io::{Cursor, Read, Write};
 use std::{io, str};
@@ -35,10 +36,11 @@ pub fn fail(rt: &impl Eprint, name: &[u8], why: io::Error) {
     };
 }
 
-// One read, to the front of the chunk: how many bytes it gave. It gives 0 where the input has ended, and where the read fails, which
-// is told with the input's name.
-pub fn read(rt: &impl Eprint, input: &mut impl Read, name: &[u8], chunk: &mut [u8]) -> usize
-    ensures { result ≤ length chunk.new }
+// One read, to the front of the chunk: how many bytes it gave, which are those that the input no longer has. It gives 0 where the
+// input has ended, and where the read fails, which is told with the input's name.
+pub fn read<R: Read>(rt: &impl Eprint, input: &mut R, name: &[u8], chunk: &mut [u8]) -> usize
+    ensures in_bounds { result ≤ length chunk.new }
+    ensures bytes { Consumes (R.remaining input.old) (R.remaining input.new) (take result chunk.new) }
 {
     match input.read(chunk) {
         Ok(n) => n,
