@@ -1,4 +1,6 @@
 -- For a state reached from opening, every byte is accounted for: used + kept + lost = live at opening + chunk length.
+use Rattle.std.specs.Prelude.{Result, Ok, Err, ⊤}
+use Rattle.state.specs.declared.Refusal.{Refusal}
 use mathlib.Core.Path.{◌≡◌, refl, sym, ap, ◌∙◌}
 use mathlib.Core.Bool.{false, true≢false}
 use mathlib.Core.List.{List}
@@ -9,7 +11,6 @@ use borrow.Author.Tests.{ltb-true}
 use Rattle.window.proofs.Pick.{by_pick}
 use Rattle.window.specs.Sync.{first_sync}
 use Rattle.state.specs.declared.State.{State}
-use Rattle.state.specs.declared.Leave.{Leave, TheVariants.{Granted, Denied}}
 use Rattle.state.specs.Words.{window, width}
 use Rattle.state.specs.Refusals.{may_open, may_use}
 use Rattle.state.specs.Ready.{Sane}
@@ -24,17 +25,17 @@ use Rattle.opening.proofs.Ready.{noted_ready}
 -- ---- a call that is not refused was granted
 
 module _ (s : State) (carry chunk : List ℕ) where
-  pub opened_granted : (l : Leave) → is_denied (open_on s carry chunk l).leave ≡ false → l ≡ Granted
-  opened_granted Granted e = refl
-  opened_granted (Denied r) e = absurd (true≢false e)
+  pub opened_granted : (l : Result ⊤ Refusal) → is_denied (open_on s carry chunk l).leave ≡ false → l ≡ Ok tt
+  opened_granted (Ok tt) e = refl
+  opened_granted (Err r) e = absurd (true≢false e)
 
-  pub stepped_granted : (l : Leave) → is_refused (step_on s carry chunk l).result.answer ≡ false → l ≡ Granted
-  stepped_granted Granted e = refl
-  stepped_granted (Denied r) e = absurd (true≢false e)
+  pub stepped_granted : (l : Result ⊤ Refusal) → is_refused (step_on s carry chunk l).result.answer ≡ false → l ≡ Ok tt
+  stepped_granted (Ok tt) e = refl
+  stepped_granted (Err r) e = absurd (true≢false e)
 
-  pub closed_granted : (l : Leave) → is_denied (close_on s carry chunk l).result.leave ≡ false → l ≡ Granted
-  closed_granted Granted e = refl
-  closed_granted (Denied r) e = absurd (true≢false e)
+  pub closed_granted : (l : Result ⊤ Refusal) → is_denied (close_on s carry chunk l).result.leave ≡ false → l ≡ Ok tt
+  closed_granted (Ok tt) e = refl
+  closed_granted (Err r) e = absurd (true≢false e)
 
 -- ---- opening uses up what it drains, and a step what it drains and takes
 

@@ -1,15 +1,15 @@
 -- 01, "a state reached from opening".
-use Rattle.std.specs.Prelude.{◌≡◌, ℕ, Bool, true, false, List, eqb}
+use Rattle.std.specs.Prelude.{◌≡◌, ℕ, Bool, true, false, List, eqb, Result, Ok, Err, ⊤}
+use Rattle.state.specs.declared.Refusal.{Refusal}
 use Rattle.state.specs.declared.State.{State}
-use Rattle.state.specs.declared.Leave.{Leave, TheVariants.{Granted, Denied}}
 use Rattle.framer.specs.declared.Answer.{Answer}
 use Rattle.opening.specs.Operations.{opening}
 use Rattle.framer.specs.Step.{step}
 use Rattle.framer.specs.Answers.{number}
 
-abbrev pub is_denied : Leave → Bool
-is_denied Granted = false
-is_denied (Denied r) = true
+abbrev pub is_denied : Result ⊤ Refusal → Bool
+is_denied (Ok tt) = false
+is_denied (Err r) = true
 
 abbrev pub is_refused : Answer → Bool
 is_refused a = eqb (number a) 7

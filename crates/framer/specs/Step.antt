@@ -1,5 +1,6 @@
 -- 01, "One step": repeat while w > 0, until something is said.
-use Rattle.std.specs.Prelude.{ℕ, zero, suc, List, length}
+use Rattle.std.specs.Prelude.{ℕ, zero, suc, List, length, Result, Ok, Err, ⊤}
+use Rattle.state.specs.declared.Refusal.{Refusal}
 use Rattle.claim.specs.declared.Kind.{Kind, TheVariants.{Ubx, Rtcm, Sentence as KindSentence}}
 use Rattle.claim.specs.declared.Tale.{Tale, TheVariants.{WrongSum as TaleWrongSum, WrongParity as TaleWrongParity, NoRoom as TaleNoRoom}}
 use Rattle.claim.specs.declared.Verdict.{Verdict, TheVariants.{Wait, Tell, Hand}}
@@ -9,7 +10,6 @@ use Rattle.look.specs.declared.Sight.{Sight, TheVariants.{Pass, Say}}
 use Rattle.look.specs.Rules.{far}
 use Rattle.look.specs.Moves.{step_move}
 use Rattle.state.specs.declared.State.{State}
-use Rattle.state.specs.declared.Leave.{Leave, TheVariants.{Granted, Denied}}
 use Rattle.state.specs.Words.{left_len, window, width, drain}
 use Rattle.state.specs.Refusals.{may_use}
 use Rattle.taking.specs.declared.Place.{Place}
@@ -60,9 +60,9 @@ step_by (suc turns) s carry chunk = act s carry chunk (move_of s carry chunk) (�
 abbrev pub step_from : State → List ℕ → List ℕ → StepOut
 step_from s carry chunk = step_by (suc (width s)) s carry chunk
 
-abbrev pub step_on : State → List ℕ → List ℕ → Leave → StepOut
-step_on s carry chunk (Denied r) = out (Refused r) s carry
-step_on s carry chunk Granted = step_from s carry chunk
+abbrev pub step_on : State → List ℕ → List ℕ → Result ⊤ Refusal → StepOut
+step_on s carry chunk (Err r) = out (Refused r) s carry
+step_on s carry chunk (Ok tt) = step_from s carry chunk
 
 unfoldable pub step : State → List ℕ → List ℕ → StepOut
 step s carry chunk = step_on s carry chunk (may_use s (length carry) (length chunk))

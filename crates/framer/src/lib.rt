@@ -10,7 +10,7 @@ ghost use Rattle.framer.specs.Step.{frame_at, tale_at, say, step_from, step};
 ghost use Rattle.framer.specs.Promises.{Steps};
 
 use claim::{Kind, Tale, Verdict};
-use state::{Leave, Refusal, State};
+use state::{Refusal, State};
 use taking::Place;
 
 // What a step answers; `at` is the position, `used` at the sync byte.
@@ -148,12 +148,11 @@ fn step_well(s: State, carry: &mut [u8], chunk: &[u8]) -> Stepped
 pub fn step(s: State, carry: &mut [u8], chunk: &[u8]) -> Stepped
     ensures { Steps (step s carry.old chunk.now) result carry.new }
 {
-    let leave = state::may_use(s, carry.len(), chunk.len());
-    match leave {
-        Leave::Denied(r) => Stepped {
-            answer: Answer::Refused(r),
+    match state::may_use(s, carry.len(), chunk.len()) {
+        Err(refusal) => Stepped {
+            answer: Answer::Refused(refusal),
             state: s,
         },
-        Leave::Granted => step_well(s, carry, chunk),
+        Ok(()) => step_well(s, carry, chunk),
     }
 }

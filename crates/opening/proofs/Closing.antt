@@ -1,4 +1,5 @@
 -- What a close keeps: the carry then holds the window's first C bytes.
+use Rattle.std.specs.Prelude.{Ok}
 use mathlib.Core.Path.{◌≡◌, ◌∙◌}
 use Prim.Native.Nat.{ℕ, ◌+◌, ◌-◌, ◌≤◌, min}
 use mathlib.Core.List.{List}
@@ -7,21 +8,20 @@ use lib.ListN.{length, take, drop}
 use lib.Seq.{take_at, take_all, take-paste, length-paste}
 use Rattle.carry.specs.Carry.{drain_carry}
 use Rattle.state.specs.declared.State.{State}
-use Rattle.state.specs.declared.Leave.TheVariants.{Granted}
 use Rattle.state.specs.Words.{left, left_len, ahead, window, width, fitting}
 use Rattle.state.specs.Ready.{Sane}
 use Rattle.state.proofs.Window.{take_both, take_min, left_length, ahead_length, drained_length}
 use Rattle.opening.specs.Operations.{close_on}
 
 module _ (s : State) (carry chunk : List ℕ) (ok : Sane s carry chunk) where
-  pub closed_length : length (close_on s carry chunk Granted).carry ≡ length carry
+  pub closed_length : length (close_on s carry chunk (Ok tt)).carry ≡ length carry
   closed_length =
       length-paste (drain_carry s.off s.live carry) (left_len s) (ahead s chunk) (fitting s (left_len s))
       (rw (drained_length s carry chunk ok) (omega (arith, ok.caps, ok.lives)))
       (rw (ahead_length s carry chunk ok) (omega arith))
       ∙ drained_length s carry chunk ok
 
-  pub closed_keeps : take (min (width s) s.cap) (close_on s carry chunk Granted).carry ≡ take s.cap (window s carry chunk)
+  pub closed_keeps : take (min (width s) s.cap) (close_on s carry chunk (Ok tt)).carry ≡ take s.cap (window s carry chunk)
   closed_keeps =
       let L = left s carry in
       let A = ahead s chunk in

@@ -1,10 +1,10 @@
 -- Two outcomes that one contract allows are the same.
+use Rattle.std.specs.Prelude.{Result, Ok, Err, ⊤}
 use mathlib.Core.Path.{◌≡◌, refl, sym, ap, ◌∙◌}
 use mathlib.Core.List.{List, [], ◌∷◌}
 use Prim.Native.Nat.{ℕ}
 use lib.ListN.{get_or}
 use Rattle.state.specs.declared.Refusal.{Refusal, TheVariants.{CarryTooBig, BadState, AlreadyOpen, NotOpen, ChunkTooLong, OtherChunk, BadPlace}}
-use Rattle.state.specs.declared.Leave.{Leave, TheVariants.{Granted, Denied}}
 use Rattle.state.specs.Refusals.{refusal_no, leave_no}
 use Rattle.opening.specs.declared.Opened.{Opened}
 use Rattle.opening.specs.declared.Closed.{Closed}
@@ -25,20 +25,20 @@ refusal_back ChunkTooLong = refl
 refusal_back OtherChunk = refl
 refusal_back BadPlace = refl
 
-abbrev leave_by : ℕ → Leave
-leave_by n = get_or (Granted ∷ []) n (Denied (refusal_by n))
+abbrev leave_by : ℕ → Result ⊤ Refusal
+leave_by n = get_or ((Ok tt) ∷ []) n (Err (refusal_by n))
 
-leave_back : (l : Leave) → leave_by (leave_no l) ≡ l
-leave_back Granted = refl
-leave_back (Denied CarryTooBig) = refl
-leave_back (Denied BadState) = refl
-leave_back (Denied AlreadyOpen) = refl
-leave_back (Denied NotOpen) = refl
-leave_back (Denied ChunkTooLong) = refl
-leave_back (Denied OtherChunk) = refl
-leave_back (Denied BadPlace) = refl
+leave_back : (l : Result ⊤ Refusal) → leave_by (leave_no l) ≡ l
+leave_back (Ok tt) = refl
+leave_back (Err CarryTooBig) = refl
+leave_back (Err BadState) = refl
+leave_back (Err AlreadyOpen) = refl
+leave_back (Err NotOpen) = refl
+leave_back (Err ChunkTooLong) = refl
+leave_back (Err OtherChunk) = refl
+leave_back (Err BadPlace) = refl
 
-pub same_leave : (l m : Leave) → leave_no l ≡ leave_no m → l ≡ m
+pub same_leave : (l m : Result ⊤ Refusal) → leave_no l ≡ leave_no m → l ≡ m
 same_leave l m e = sym (leave_back l) ∙ ap leave_by e ∙ leave_back m
 
 -- ---- what each contract promises is one outcome, so two that it allows are the same

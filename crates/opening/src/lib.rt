@@ -3,23 +3,22 @@
 #![tactic(auto)]
 
 ghost use Rattle.std.specs.Prelude.{◌≡◌, length};
-ghost use Rattle.state.specs.declared.Leave.TheVariants.{Granted};
 ghost use Rattle.state.specs.Ready.{Ready};
 ghost use Rattle.opening.specs.Operations.{start, noted, open_on, opening, close_on, closing};
 ghost use Rattle.opening.specs.Promises.{Opens, Closes};
 
-use state::{LIMIT, Leave, Refusal, State};
+use state::{LIMIT, Refusal, State};
 use window::{Mode, least};
 
 #[derive(Clone, Copy)]
 pub struct Opened {
-    pub leave: Leave,
+    pub leave: Result<(), Refusal>,
     pub state: State,
 }
 
 #[derive(Clone, Copy)]
 pub struct Closed {
-    pub leave: Leave,
+    pub leave: Result<(), Refusal>,
     pub used: usize,
     pub kept: usize,
     pub lost: usize,
@@ -31,23 +30,21 @@ pub fn start(carry: &[u8], mode: Mode, max: u16) -> Opened
     ensures { Opens (start mode max (length carry.now)) result }
 {
     if LIMIT < carry.len() {
-        let state = state::idle(mode, max, 0, 0);
         return Opened {
-            leave: Leave::Denied(Refusal::CarryTooBig),
-            state,
+            leave: Err(Refusal::CarryTooBig),
+            state: state::idle(mode, max, 0, 0),
         };
     }
-    let state = state::idle(mode, max, carry.len(), 0);
     Opened {
-        leave: Leave::Granted,
-        state,
+        leave: Ok(()),
+        state: state::idle(mode, max, carry.len(), 0),
     }
 }
 
 // An opening that is not refused. Where the carry begins with a sync byte, there is nothing to look for.
 fn open_well(s: State, carry: &[u8], chunk: &[u8]) -> State
     requires { Ready (noted s (length chunk.now)) carry.now chunk.now }
-    ensures { result ≡ (open_on s carry.now chunk.now Granted).state }
+    ensures { result ≡ (open_on s carry.now chunk.now (Ok tt)).state }
 {
     let mode = s.mode;
     let off = s.off;
@@ -76,27 +73,23 @@ fn open_well(s: State, carry: &[u8], chunk: &[u8]) -> State
 pub fn open(s: State, carry: &[u8], chunk: &[u8]) -> Opened
     ensures { Opens (opening s carry.now chunk.now) result }
 {
-    let leave = state::may_open(s, carry.len(), chunk.len());
-    match leave {
-        Leave::Denied(r) => Opened {
-            leave: Leave::Denied(r),
+    match state::may_open(s, carry.len(), chunk.len()) {
+        Err(refusal) => Opened {
+            leave: Err(refusal),
             state: s,
         },
-        Leave::Granted => {
-            let state = open_well(s, carry, chunk);
-            Opened {
-                leave: Leave::Granted,
-                state,
-            }
-        }
+        Ok(()) => Opened {
+            leave: Ok(()),
+            state: open_well(s, carry, chunk),
+        },
     }
 }
 
 // A close that is not refused.
 pub fn close_well(s: State, carry: &mut [u8], chunk: &[u8]) -> Closed
     requires { Ready s carry.old chunk.now }
-    ensures value { result ≡ (close_on s carry.old chunk.now Granted).result }
-    ensures carry_after { carry.new ≡ (close_on s carry.old chunk.now Granted).carry }
+    ensures value { result ≡ (close_on s carry.old chunk.now (Ok tt)).result }
+    ensures carry_after { carry.new ≡ (close_on s carry.old chunk.now (Ok tt)).carry }
 {
     let mode = s.mode;
     let from = s.part;
@@ -106,7 +99,7 @@ pub fn close_well(s: State, carry: &mut [u8], chunk: &[u8]) -> Closed
     let kept = carry::extend(carry, left, &chunk[from..], n);
     let state = state::idle(mode, s.max, s.cap, kept);
     Closed {
-        leave: Leave::Granted,
+        leave: Ok(()),
         used: s.used,
         kept,
         lost: rest - n,
@@ -118,15 +111,14 @@ pub fn close_well(s: State, carry: &mut [u8], chunk: &[u8]) -> Closed
 pub fn close(s: State, carry: &mut [u8], chunk: &[u8]) -> Closed
     ensures { Closes (closing s carry.old chunk.now) result carry.new }
 {
-    let leave = state::may_use(s, carry.len(), chunk.len());
-    match leave {
-        Leave::Denied(r) => Closed {
-            leave: Leave::Denied(r),
+    match state::may_use(s, carry.len(), chunk.len()) {
+        Err(refusal) => Closed {
+            leave: Err(refusal),
             used: 0,
             kept: 0,
             lost: 0,
             state: s,
         },
-        Leave::Granted => close_well(s, carry, chunk),
+        Ok(()) => close_well(s, carry, chunk),
     }
 }

@@ -7,26 +7,19 @@ pub mod writes;
 ghost use Rattle.std.specs.Prelude.{◌≡◌, length};
 ghost use Rattle.orgnevis.specs.Calls.{starts, opens, steps, closes, views};
 
-use state::Leave;
 use taking::Side;
-use words::{ModeRead, Read};
 
 // A fresh parser. Answers 0, 1, or 8 for a mode's number that isn't one, which writes nothing.
 pub fn orgnevis_start(state: &mut [u64; 24], carry: &[u8], mode: u64, max: u16) -> u64
     ensures value { result ≡ (starts state.old (length carry.now) mode max).number }
     ensures state_after { state.new ≡ (starts state.old (length carry.now) mode max).words }
 {
-    let read = words::read_mode(mode);
-    match read {
-        ModeRead::NoMode => 8,
-        ModeRead::Known(mode) => {
-            let started = opening::start(carry, mode, max);
-            let next = started.state;
-            words::write_state(next, state);
-            let leave = started.leave;
-            words::leave_no(leave)
-        }
-    }
+    let Some(mode) = words::read_mode(mode) else {
+        return 8;
+    };
+    let started = opening::start(carry, mode, max);
+    words::write_state(started.state, state);
+    words::leave_no(started.leave)
 }
 
 // The whole of orgnevis_open. It is called in two places, since the compiler keeps apart only what is called twice: the quick way
@@ -35,20 +28,15 @@ fn full_open(state: &mut [u64; 24], carry: &[u8], chunk: &[u8]) -> u64
     ensures value { result ≡ (opens state.old carry.now chunk.now).number }
     ensures state_after { state.new ≡ (opens state.old carry.now chunk.now).words }
 {
-    let read = words::read_state(state);
-    match read {
-        Read::NoState => 2,
-        Read::Is(s) => {
-            let opened = opening::open(s, carry, chunk);
-            let next = opened.state;
-            let leave = opened.leave;
-            match leave {
-                Leave::Denied(refusal) => words::refusal_no(refusal),
-                Leave::Granted => {
-                    words::write_opened(next, state);
-                    0
-                }
-            }
+    let Some(s) = words::read_state(state) else {
+        return 2;
+    };
+    let opened = opening::open(s, carry, chunk);
+    match opened.leave {
+        Err(refusal) => words::refusal_no(refusal),
+        Ok(()) => {
+            words::write_opened(opened.state, state);
+            0
         }
     }
 }
@@ -58,10 +46,9 @@ pub fn orgnevis_open(state: &mut [u64; 24], carry: &[u8], chunk: &[u8]) -> u64
     ensures value { result ≡ (opens state.old carry.now chunk.now).number }
     ensures state_after { state.new ≡ (opens state.old carry.now chunk.now).words }
 {
-    let read = words::read_plain(state, false);
-    match read {
-        Read::NoState => full_open(state, carry, chunk),
-        Read::Is(s) => {
+    match words::read_plain(state, false) {
+        None => full_open(state, carry, chunk),
+        Some(s) => {
             if state::opens(s, carry.len(), chunk.len()) {
                 if quick_chunk::open_at_once(s, state, carry, chunk) {
                     return 0;
@@ -78,15 +65,12 @@ fn full_step(state: &mut [u64; 24], carry: &mut [u8], chunk: &[u8], out: &mut [u
     ensures out_after { out.new ≡ (steps state.old carry.old chunk.now).out }
     ensures carry_after { carry.new ≡ (steps state.old carry.old chunk.now).carry }
 {
-    let read = words::read_state(state);
-    match read {
-        Read::NoState => words::write_plain(out, 7, 0, 2, 0),
-        Read::Is(s) => {
+    match words::read_state(state) {
+        None => words::write_plain(out, 7, 0, 2, 0),
+        Some(s) => {
             let stepped = framer::step(s, carry, chunk);
-            let next = stepped.state;
-            words::write_stepped(next, state);
-            let answer = stepped.answer;
-            words::write_answer(answer, out)
+            words::write_stepped(stepped.state, state);
+            words::write_answer(stepped.answer, out)
         }
     }
 }
@@ -97,10 +81,9 @@ pub fn orgnevis_step(state: &mut [u64; 24], carry: &mut [u8], chunk: &[u8], out:
     ensures out_after { out.new ≡ (steps state.old carry.old chunk.now).out }
     ensures carry_after { carry.new ≡ (steps state.old carry.old chunk.now).carry }
 {
-    let read = words::read_plain(state, true);
-    match read {
-        Read::NoState => full_step(state, carry, chunk, out),
-        Read::Is(s) => {
+    match words::read_plain(state, true) {
+        None => full_step(state, carry, chunk, out),
+        Some(s) => {
             if state::is_usable(s, carry.len(), chunk.len()) {
                 if quick_step::step_at_once(s, state, carry, chunk, out) {
                     return;
@@ -119,31 +102,21 @@ fn full_close(state: &mut [u64; 24], carry: &mut [u8], chunk: &[u8], out: &mut [
     ensures out_after { out.new ≡ (closes state.old carry.old chunk.now).out }
     ensures carry_after { carry.new ≡ (closes state.old carry.old chunk.now).carry }
 {
-    let read = words::read_state(state);
-    match read {
-        Read::NoState => words::write_report(out, 2, 0, 0, 0),
-        Read::Is(s) => {
-            let closed = opening::close(s, carry, chunk);
-            let leave = closed.leave;
-            match leave {
-                Leave::Denied(refusal) => words::write_report(
-                    out,
-                    words::refusal_no(refusal),
-                    0,
-                    0,
-                    0,
-                ),
-                Leave::Granted => {
-                    words::write_closed(closed.kept, state);
-                    words::write_report(
-                        out,
-                        0,
-                        words::word(closed.used),
-                        words::word(closed.kept),
-                        words::word(closed.lost),
-                    )
-                }
-            }
+    let Some(s) = words::read_state(state) else {
+        return words::write_report(out, 2, 0, 0, 0);
+    };
+    let closed = opening::close(s, carry, chunk);
+    match closed.leave {
+        Err(refusal) => words::write_report(out, words::refusal_no(refusal), 0, 0, 0),
+        Ok(()) => {
+            words::write_closed(closed.kept, state);
+            words::write_report(
+                out,
+                0,
+                closed.used as u64,
+                closed.kept as u64,
+                closed.lost as u64,
+            )
         }
     }
 }
@@ -154,10 +127,9 @@ pub fn orgnevis_close(state: &mut [u64; 24], carry: &mut [u8], chunk: &[u8], out
     ensures out_after { out.new ≡ (closes state.old carry.old chunk.now).out }
     ensures carry_after { carry.new ≡ (closes state.old carry.old chunk.now).carry }
 {
-    let read = words::read_plain(state, true);
-    match read {
-        Read::NoState => full_close(state, carry, chunk, out),
-        Read::Is(open) => {
+    match words::read_plain(state, true) {
+        None => full_close(state, carry, chunk, out),
+        Some(open) => {
             if state::is_usable(open, carry.len(), chunk.len()) {
                 quick_chunk::close_at_once(open, state, carry, chunk, out)
             } else {
@@ -171,15 +143,10 @@ pub fn orgnevis_close(state: &mut [u64; 24], carry: &mut [u8], chunk: &[u8], out
 pub fn orgnevis_view(carry: &[u8], chunk: &[u8], side: u64, start: u64, len: u64) -> u64
     ensures { result ≡ views (length carry.now) (length chunk.now) side start len }
 {
-    if side == 0 {
-        let place = words::place_on(Side::Carry, start, len);
-        let leave = taking::may_view(carry, chunk, place);
-        return words::leave_no(leave);
-    }
-    if side == 1 {
-        let place = words::place_on(Side::Chunk, start, len);
-        let leave = taking::may_view(carry, chunk, place);
-        return words::leave_no(leave);
-    }
-    7
+    let side = match side {
+        0 => Side::Carry,
+        1 => Side::Chunk,
+        _ => return 7,
+    };
+    words::leave_no(taking::may_view(carry, chunk, words::place_on(side, start, len)))
 }

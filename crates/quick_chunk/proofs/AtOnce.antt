@@ -1,4 +1,5 @@
 -- A granted opening, a granted step and a granted close, by what they come to.
+use Rattle.std.specs.Prelude.{Ok}
 use mathlib.Core.Path.{◌≡◌}
 use mathlib.Core.Bool.{true}
 use mathlib.Core.List.{List}
@@ -10,7 +11,6 @@ use borrow.Author.Tests.{lt-ltb, le-ltb}
 use Rattle.window.specs.Pick.{pick}
 use Rattle.window.specs.Sync.{is_sync, first_sync}
 use Rattle.state.specs.declared.State.{State}
-use Rattle.state.specs.declared.Leave.TheVariants.{Granted}
 use Rattle.state.specs.Words.{window, width}
 use Rattle.state.specs.Refusals.{may_open, may_use}
 use Rattle.state.proofs.Window.{drain_zero}
@@ -21,16 +21,16 @@ use Rattle.framer.specs.Step.{step_from, step}
 use Rattle.opening.proofs.Slices.{syncs_at_once}
 
 module _ (s : State) (carry chunk : List ℕ) where
-  pub closes_well : may_use s (length carry) (length chunk) ≡ Granted → closing s carry chunk ≡ close_on s carry chunk Granted
+  pub closes_well : may_use s (length carry) (length chunk) ≡ Ok tt → closing s carry chunk ≡ close_on s carry chunk (Ok tt)
   unfolding closing
   closes_well g = rw g
 
-  pub steps_well : may_use s (length carry) (length chunk) ≡ Granted → step s carry chunk ≡ step_from s carry chunk
+  pub steps_well : may_use s (length carry) (length chunk) ≡ Ok tt → step s carry chunk ≡ step_from s carry chunk
   unfolding step
   steps_well g = rw g
 
-  module _ (g : may_open s (length carry) (length chunk) ≡ Granted) where
-    pub opens_well : opening s carry chunk ≡ open_on s carry chunk Granted
+  module _ (g : may_open s (length carry) (length chunk) ≡ Ok tt) where
+    pub opens_well : opening s carry chunk ≡ open_on s carry chunk (Ok tt)
     unfolding opening
     opens_well = rw g
 

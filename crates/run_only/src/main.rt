@@ -2,7 +2,7 @@
 #![tactic(auto)]
 
 use framer::Answer;
-use state::{Leave, State};
+use state::State;
 use window::Mode;
 
 const MAX: u16 = 16;
@@ -40,11 +40,9 @@ fn run_chunk(rt: &impl Print, s: State, carry: &mut [u8], chunk: &[u8]) -> State
     say_answer(rt, answer);
     let second = stepped.state;
     let closed = opening::close(second, carry, chunk);
-    let leave = closed.leave;
-    match leave {
-        Leave::Granted => {}
-        Leave::Denied(_) => say(rt, " refused"),
-    };
+    if closed.leave.is_err() {
+        say(rt, " refused");
+    }
     say_number(rt, ", used ", closed.used);
     say_number(rt, " kept ", closed.kept);
     say_number(rt, " lost ", closed.lost);

@@ -1,4 +1,6 @@
 -- A call that is not refused: what its state then is, and that such a state is never refused.
+use Rattle.std.specs.Prelude.{Result, Ok, ⊤}
+use Rattle.state.specs.declared.Refusal.{Refusal}
 use mathlib.Core.Path.{◌≡◌, refl, ap}
 use mathlib.Core.Bool.{Bool, true, false, not, true≢false}
 use mathlib.Core.List.{List, [], ◌∷◌}
@@ -10,7 +12,6 @@ use borrow.Author.Tests.{eqb-true, ltb-false, le-ltb, eq-eqb, not-false}
 use Rattle.window.specs.Pick.{pick}
 use Rattle.window.proofs.Pick.{by_pick, pick_false}
 use Rattle.state.specs.declared.State.{State}
-use Rattle.state.specs.declared.Leave.{Leave, TheVariants.{Granted}}
 use Rattle.state.specs.Words.{width, drain}
 use Rattle.state.specs.Refusals.{any_of, idle_bad, faults, is_bad, may_open, may_use}
 use Rattle.state.specs.Ready.{Ready}
@@ -88,11 +89,11 @@ idle_zeros s o e =
 
 -- by the lengths alone: a sound state is granted
 module _ (s : State) (n m : ℕ) (h : Sound s n) where
-  pub granted_use : s.«open» ≡ true → m ≡ s.chunk → may_use s n m ≡ Granted
+  pub granted_use : s.«open» ≡ true → m ≡ s.chunk → may_use s n m ≡ Ok tt
   unfolding may_use
   granted_use o e = rw (not_bad s n h, pick_false, o, pick_false, eq-eqb m s.chunk e, pick_false)
 
-  pub granted_open : s.«open» ≡ false → m ≤ 16384 → may_open s n m ≡ Granted
+  pub granted_open : s.«open» ≡ false → m ≤ 16384 → may_open s n m ≡ Ok tt
   unfolding may_open
   granted_open o f = rw (not_bad s n h, pick_false, o, pick_false, le-ltb _ _ f, pick_false)
 
@@ -109,10 +110,10 @@ module _ (s : State) (carry chunk : List ℕ) where
     pub ready : Ready s carry chunk
     pub opened : s.«open» ≡ true
 
-  pub use_granted : may_use s (length carry) (length chunk) ≡ Granted → Usable
+  pub use_granted : may_use s (length carry) (length chunk) ≡ Ok tt → Usable
   unfolding may_use
   use_granted =
-      let P : Leave → Type 0 = λ l. l ≡ Granted → Usable in
+      let P : Result ⊤ Refusal → Type 0 = λ l. l ≡ Ok tt → Usable in
       by_pick P (λ _ e. let z : ◌≡◌ {A = ℕ} 0 1 = cc in absurd (omega arith))
       (λ bad. let h = sound_of s (length carry) bad in
       by_pick P (λ _ e. let z : ◌≡◌ {A = ℕ} 0 1 = cc in absurd (omega arith))
@@ -127,7 +128,7 @@ module _ (s : State) (carry chunk : List ℕ) where
         opened = not-false _ o;
       })))
 
-  pub grant_use : Usable → may_use s (length carry) (length chunk) ≡ Granted
+  pub grant_use : Usable → may_use s (length carry) (length chunk) ≡ Ok tt
   grant_use u =
       let r = u.ready in
       let k = r.sane in
@@ -149,16 +150,16 @@ module _ (s : State) (carry chunk : List ℕ) where
     pub closed : s.«open» ≡ false
     pub fits : length chunk ≤ 16384
 
-  pub open_granted : may_open s (length carry) (length chunk) ≡ Granted → Openable
+  pub open_granted : may_open s (length carry) (length chunk) ≡ Ok tt → Openable
   unfolding may_open
   open_granted =
-      let P : Leave → Type 0 = λ l. l ≡ Granted → Openable in
+      let P : Result ⊤ Refusal → Type 0 = λ l. l ≡ Ok tt → Openable in
       by_pick P (λ _ e. let z : ◌≡◌ {A = ℕ} 0 1 = cc in absurd (omega arith))
       (λ bad. by_pick P (λ _ e. let z : ◌≡◌ {A = ℕ} 0 1 = cc in absurd (omega arith))
       (λ o. by_pick P (λ _ e. let z : ◌≡◌ {A = ℕ} 0 1 = cc in absurd (omega arith))
       (λ n _. record { sound = sound_of s (length carry) bad; closed = o; fits = ltb-false 16384 (length chunk) n })))
 
-  pub grant_open : Openable → may_open s (length carry) (length chunk) ≡ Granted
+  pub grant_open : Openable → may_open s (length carry) (length chunk) ≡ Ok tt
   grant_open h = granted_open s (length carry) (length chunk) h.sound h.closed h.fits
 
   -- ---- draining

@@ -1,9 +1,8 @@
 -- 01, "Sizes" and "Refusal numbers".
-use Rattle.std.specs.Prelude.{ℕ, ◌+◌, Bool, true, false, not, ◌&&◌, List, [], ◌∷◌, ltb, eqb}
+use Rattle.std.specs.Prelude.{ℕ, ◌+◌, Bool, true, false, not, ◌&&◌, List, [], ◌∷◌, ltb, eqb, Result, Ok, Err, ⊤}
 use Rattle.window.specs.Pick.{pick}
 use Rattle.state.specs.declared.State.{State}
 use Rattle.state.specs.declared.Refusal.{Refusal, TheVariants.{CarryTooBig, BadState, AlreadyOpen, NotOpen, ChunkTooLong, OtherChunk, BadPlace}}
-use Rattle.state.specs.declared.Leave.{Leave, TheVariants.{Granted, Denied}}
 use Rattle.state.specs.Words.{width}
 
 -- the table's numbers; a call that is not refused has 0
@@ -16,9 +15,9 @@ refusal_no ChunkTooLong = 5
 refusal_no OtherChunk = 6
 refusal_no BadPlace = 7
 
-abbrev pub leave_no : Leave → ℕ
-leave_no Granted = 0
-leave_no (Denied r) = refusal_no r
+abbrev pub leave_no : Result ⊤ Refusal → ℕ
+leave_no (Ok tt) = 0
+leave_no (Err r) = refusal_no r
 
 -- one of the tests passes
 abbrev pub any_of : List Bool → Bool
@@ -46,17 +45,17 @@ unfoldable pub is_bad : State → ℕ → Bool
 is_bad s carryLen = any_of (faults s carryLen)
 
 -- opening: 2, then 3, then 5
-unfoldable pub may_open : State → ℕ → ℕ → Leave
+unfoldable pub may_open : State → ℕ → ℕ → Result ⊤ Refusal
 may_open s carryLen chunkLen =
-    pick (is_bad s carryLen) (Denied BadState)
-    (pick s.«open» (Denied AlreadyOpen)
-    (pick (ltb 16384 chunkLen) (Denied ChunkTooLong)
-    Granted))
+    pick (is_bad s carryLen) (Err BadState)
+    (pick s.«open» (Err AlreadyOpen)
+    (pick (ltb 16384 chunkLen) (Err ChunkTooLong)
+    (Ok tt)))
 
 -- stepping and closing: 2, then 4, then 6
-unfoldable pub may_use : State → ℕ → ℕ → Leave
+unfoldable pub may_use : State → ℕ → ℕ → Result ⊤ Refusal
 may_use s carryLen chunkLen =
-    pick (is_bad s carryLen) (Denied BadState)
-    (pick (not s.«open») (Denied NotOpen)
-    (pick (not (eqb chunkLen s.chunk)) (Denied OtherChunk)
-    Granted))
+    pick (is_bad s carryLen) (Err BadState)
+    (pick (not s.«open») (Err NotOpen)
+    (pick (not (eqb chunkLen s.chunk)) (Err OtherChunk)
+    (Ok tt)))

@@ -5,7 +5,6 @@
 ghost use Rattle.std.specs.Prelude.{◌≡◌, true, ◌+◌, ◌≤◌};
 ghost use Rattle.state.specs.Words.{width, drain, idle};
 ghost use Rattle.state.specs.Refusals.{idle_bad, is_bad, may_open, may_use};
-ghost use Rattle.state.specs.declared.Leave.TheVariants.{Granted};
 
 use window::Mode;
 
@@ -25,13 +24,6 @@ pub enum Refusal {
     ChunkTooLong,
     OtherChunk,
     BadPlace,
-}
-
-// Whether a call is refused.
-#[derive(Clone, Copy)]
-pub enum Leave {
-    Granted,
-    Denied(Refusal),
 }
 
 // A parser: mode and MAX; C, the carry's length; how many of the carry's bytes are live, and how many of these used up; the
@@ -116,7 +108,7 @@ fn is_bad(s: State, carry_len: usize) -> bool
 // Whether a state can be opened at once: where it can, no refusal comes. Tried first, so that the tests of the table, which
 // also find out the number, are made only where one is to be said.
 pub fn opens(s: State, carry_len: usize, chunk_len: usize) -> bool
-    ensures { result ≡ true → may_open s carry_len chunk_len ≡ Granted }
+    ensures { result ≡ true → may_open s carry_len chunk_len ≡ Ok tt }
 {
     if s.open {
         return false;
@@ -146,27 +138,27 @@ pub fn opens(s: State, carry_len: usize, chunk_len: usize) -> bool
 }
 
 // Opening: refusal 2, then 3, then 5.
-pub fn may_open(s: State, carry_len: usize, chunk_len: usize) -> Leave
+pub fn may_open(s: State, carry_len: usize, chunk_len: usize) -> Result<(), Refusal>
     ensures { result ≡ may_open s carry_len chunk_len }
 {
     if opens(s, carry_len, chunk_len) {
-        return Leave::Granted;
+        return Ok(());
     }
     if is_bad(s, carry_len) {
-        return Leave::Denied(Refusal::BadState);
+        return Err(Refusal::BadState);
     }
     if s.open {
-        return Leave::Denied(Refusal::AlreadyOpen);
+        return Err(Refusal::AlreadyOpen);
     }
     if LIMIT < chunk_len {
-        return Leave::Denied(Refusal::ChunkTooLong);
+        return Err(Refusal::ChunkTooLong);
     }
-    Leave::Granted
+    Ok(())
 }
 
 // Whether a state can be stepped or closed at once, likewise.
 pub fn is_usable(s: State, carry_len: usize, chunk_len: usize) -> bool
-    ensures { result ≡ true → may_use s carry_len chunk_len ≡ Granted }
+    ensures { result ≡ true → may_use s carry_len chunk_len ≡ Ok tt }
 {
     if !s.open {
         return false;
@@ -197,22 +189,22 @@ pub fn is_usable(s: State, carry_len: usize, chunk_len: usize) -> bool
 }
 
 // Stepping and closing: refusal 2, then 4, then 6.
-pub fn may_use(s: State, carry_len: usize, chunk_len: usize) -> Leave
+pub fn may_use(s: State, carry_len: usize, chunk_len: usize) -> Result<(), Refusal>
     ensures { result ≡ may_use s carry_len chunk_len }
 {
     if is_usable(s, carry_len, chunk_len) {
-        return Leave::Granted;
+        return Ok(());
     }
     if is_bad(s, carry_len) {
-        return Leave::Denied(Refusal::BadState);
+        return Err(Refusal::BadState);
     }
     if !s.open {
-        return Leave::Denied(Refusal::NotOpen);
+        return Err(Refusal::NotOpen);
     }
     if chunk_len != s.chunk {
-        return Leave::Denied(Refusal::OtherChunk);
+        return Err(Refusal::OtherChunk);
     }
-    Leave::Granted
+    Ok(())
 }
 
 // The state with k bytes of its window drained.

@@ -1,4 +1,6 @@
 -- Calls that put chunks through a parser walk over the joined chunks, for any parser whose moves more bytes do not change.
+use Rattle.std.specs.Prelude.{Result, Ok, Err, ⊤}
+use Rattle.state.specs.declared.Refusal.{Refusal}
 use mathlib.Core.Path.{◌≡◌, refl, sym, ap, ◌∙◌}
 use mathlib.Core.Bool.{true, false, true≢false}
 use mathlib.Core.List.{List, [], ◌++◌, append_assoc, append-nil}
@@ -11,7 +13,6 @@ use Rattle.claim.specs.Sizes.{skip, size}
 use Rattle.look.specs.declared.Sight.{Sight, TheVariants.{Pass, Say}}
 use Rattle.look.specs.Rules.{far}
 use Rattle.state.specs.declared.State.{State}
-use Rattle.state.specs.declared.Leave.{Leave, TheVariants.{Granted, Denied}}
 use Rattle.state.specs.Words.{window, width, drain}
 use Rattle.state.specs.Refusals.{may_open, may_use}
 use Rattle.state.specs.Ready.{Sane}
@@ -47,21 +48,21 @@ step_granted zero s carry chunk = refl
 step_granted (suc f) s carry chunk = act_granted s carry chunk (move_of s carry chunk) (λ k. step_by f (drain k s) carry chunk) (λ k. step_granted f (drain k s) carry chunk)
 
 module _ (s : State) (carry chunk : List ℕ) where
-  open_held : (l : Leave) → is_denied (open_on s carry chunk l).leave ≡ true → (open_on s carry chunk l).state ≡ s
-  open_held Granted e = absurd (true≢false (sym e))
-  open_held (Denied r) e = refl
+  open_held : (l : Result ⊤ Refusal) → is_denied (open_on s carry chunk l).leave ≡ true → (open_on s carry chunk l).state ≡ s
+  open_held (Ok tt) e = absurd (true≢false (sym e))
+  open_held (Err r) e = refl
 
-  step_held : (l : Leave) → is_refused (step_on s carry chunk l).result.answer ≡ true
+  step_held : (l : Result ⊤ Refusal) → is_refused (step_on s carry chunk l).result.answer ≡ true
       → ((step_on s carry chunk l).result.state ≡ s) × ((step_on s carry chunk l).carry ≡ carry)
       × ((base : ℕ) (sight : Place → List ℕ) → heard base sight (step_on s carry chunk l).result.answer ≡ [])
-  step_held Granted e = absurd (true≢false (sym e ∙ step_granted (suc (width s)) s carry chunk))
-  step_held (Denied r) e = (refl, refl, λ base sight. refl)
+  step_held (Ok tt) e = absurd (true≢false (sym e ∙ step_granted (suc (width s)) s carry chunk))
+  step_held (Err r) e = (refl, refl, λ base sight. refl)
 
-  close_held : (l : Leave) → is_denied (close_on s carry chunk l).result.leave ≡ true
+  close_held : (l : Result ⊤ Refusal) → is_denied (close_on s carry chunk l).result.leave ≡ true
       → ((close_on s carry chunk l).result.state ≡ s) × ((close_on s carry chunk l).carry ≡ carry)
       × ((close_on s carry chunk l).result.used ≡ 0) × ((close_on s carry chunk l).result.lost ≡ 0)
-  close_held Granted e = absurd (true≢false (sym e))
-  close_held (Denied r) e = (refl, refl, refl, refl)
+  close_held (Ok tt) e = absurd (true≢false (sym e))
+  close_held (Err r) e = (refl, refl, refl, refl)
 
 -- what a call leaves as it was given is as the parser had it
 regains : {A : Type 0} (x : A) (g : Arg A) (y : A) → y ≡ given x g → regained x g y ≡ x
@@ -131,7 +132,7 @@ module _ (u : Setup) (move : List ℕ → Sight) (parses : Parses u move) where
   ran done i = (rw append-nil here, i.1, refl)
   ran (opened {p} {c} {ks} {cs} e f) i =
       let s = p.state in
-      let gr : may_open s (length p.carry) (length c) ≡ Granted = unfold opening in opened_granted s p.carry c (may_open s (length p.carry) (length c)) e in
+      let gr : may_open s (length p.carry) (length c) ≡ Ok tt = unfold opening in opened_granted s p.carry c (may_open s (length p.carry) (length c)) e in
       let a = opening_walks u move parses p.base c s p.carry i.0 gr in
       let r = ran f a.0 in
       (from refl (append_assoc (holds p) c (joined cs)) (join move (extended move parses.steady (joined cs) a.1) r.0), r.1, omega (arith, r.2))
@@ -145,7 +146,7 @@ module _ (u : Setup) (move : List ℕ → Sight) (parses : Parses u move) where
       (join move (extended move parses.steady (joined cs) k.0.walk) r.0, r.1, omega (arith, r.2))
   ran (closed {p} {c} {ks} {cs} e f) i =
       let s = p.state in
-      let gr : may_use s (length p.carry) (length c) ≡ Granted = unfold closing in closed_granted s p.carry c (may_use s (length p.carry) (length c)) e in
+      let gr : may_use s (length p.carry) (length c) ≡ Ok tt = unfold closing in closed_granted s p.carry c (may_use s (length p.carry) (length c)) e in
       let k = closing_keeps u move parses p.base c s p.carry i.0 gr i.1 in
       let r = ran f (k.0, rw k.1 i.1) in
       (from (ap (λ (n : ℕ). p.base + n) k.2) (ap (λ (l : List ℕ). l ++ joined cs) k.1) r.0, r.1, omega (arith, r.2, k.3))

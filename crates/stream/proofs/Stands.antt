@@ -1,4 +1,6 @@
 -- What a step's wrong sum or wrong parity names stands in the window, at the answer's position.
+use Rattle.std.specs.Prelude.{Result, Ok, Err, ⊤}
+use Rattle.state.specs.declared.Refusal.{Refusal}
 use mathlib.Core.Path.{◌≡◌, refl, sym}
 use mathlib.Core.Bool.{true}
 use mathlib.Core.List.{List}
@@ -15,7 +17,6 @@ use Rattle.look.specs.declared.Sight.{Sight, TheVariants.{Pass, Say}}
 use Rattle.look.specs.Rules.{far}
 use Rattle.look.specs.Within.{Moves}
 use Rattle.state.specs.declared.State.{State}
-use Rattle.state.specs.declared.Leave.{Leave, TheVariants.{Granted, Denied}}
 use Rattle.state.specs.Words.{left_len, window, width, drain}
 use Rattle.state.specs.Refusals.{may_use}
 use Rattle.state.specs.Ready.{Sane}
@@ -106,9 +107,9 @@ module _ (carry chunk : List ℕ) where
       act_stands s ok bytes (move_of s carry chunk) refl (moves_in chunk s carry ok) (λ k. step_by f (drain k s) carry chunk)
       (λ k l. turns_stand f (drain k s) (drain_sane s carry chunk ok k l) (rw (window_drain s carry chunk ok k) (bytes_on (window s carry chunk) k bytes)))
 
-  on_stands : (s : State) (l : Leave) → may_use s (length carry) (length chunk) ≡ l → Bytes (window s carry chunk) → OutStands s (step_on s carry chunk l)
-  on_stands s (Denied r) e bytes = tt
-  on_stands s Granted e bytes = turns_stand (suc (width s)) s (use_granted s carry chunk e).ready.sane bytes
+  on_stands : (s : State) (l : Result ⊤ Refusal) → may_use s (length carry) (length chunk) ≡ l → Bytes (window s carry chunk) → OutStands s (step_on s carry chunk l)
+  on_stands s (Err r) e bytes = tt
+  on_stands s (Ok tt) e bytes = turns_stand (suc (width s)) s (use_granted s carry chunk e).ready.sane bytes
 
   -- one law for both
   step_stands : (s : State) → Bytes (window s carry chunk) → OutStands s (step s carry chunk)

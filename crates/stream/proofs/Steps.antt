@@ -1,4 +1,5 @@
 -- Openings, steps and closes of a parser as parts of a walk, for any parser whose moves more bytes do not change.
+use Rattle.std.specs.Prelude.{Ok}
 use mathlib.Core.Path.{◌≡◌, refl, sym, ap, ◌∙◌}
 use mathlib.Core.Bool.{true, false, true≢false}
 use mathlib.Core.List.{List, [], ◌∷◌, ◌++◌, append-nil}
@@ -17,7 +18,6 @@ use Rattle.look.specs.declared.Sight.{Sight, TheVariants.{Pass, Say}}
 use Rattle.look.specs.Rules.{far}
 use Rattle.look.specs.Within.{whole, Moves}
 use Rattle.state.specs.declared.State.{State}
-use Rattle.state.specs.declared.Leave.TheVariants.{Granted}
 use Rattle.state.specs.Words.{left_len, window, width, drain}
 use Rattle.state.specs.Refusals.{may_open, may_use}
 use Rattle.state.specs.Ready.{Sane}
@@ -115,7 +115,7 @@ module _ (u : Setup) (move : List ℕ → Sight) (parses : Parses u move) (base 
       turn_by move (b ∷ bs) bs (Pass NoSync) (parses.noise b bs t) refl refl (rw at at (noise_walk bs (p + 1))))
 
   module _ (s : State) (carry : List ℕ) (su : setup_of s ≡ u) where
-    pub opening_walks : may_open s (length carry) (length chunk) ≡ Granted
+    pub opening_walks : may_open s (length carry) (length chunk) ≡ Ok tt
         → (setup_of (opening s carry chunk).state ≡ u)
         × Walk move base (take s.live carry ++ chunk) [] (base + (opening s carry chunk).state.used) (window (opening s carry chunk).state carry chunk)
     unfolding opening
@@ -134,7 +134,7 @@ module _ (u : Setup) (move : List ℕ → Sight) (parses : Parses u move) (base 
         rw (gr, ← w) go
 
     -- a close keeps the window, where it is one that needs more
-    pub closing_keeps : may_use s (length carry) (length chunk) ≡ Granted → ends (move (window s carry chunk)) ≡ true
+    pub closing_keeps : may_use s (length carry) (length chunk) ≡ Ok tt → ends (move (window s carry chunk)) ≡ true
         → (setup_of (closing s carry chunk).result.state ≡ u)
         × (take (closing s carry chunk).result.state.live (closing s carry chunk).carry ≡ window s carry chunk)
         × ((closing s carry chunk).result.used ≡ s.used) × ((closing s carry chunk).result.lost ≡ 0)

@@ -7,7 +7,7 @@ ghost use Rattle.state.specs.Ready.{Ready, Room};
 ghost use Rattle.taking.specs.Take.{take_grow, take_shift, taking};
 ghost use Rattle.taking.specs.View.{view_leave, may_view, view_in, view};
 
-use state::{Leave, Refusal, State};
+use state::{Refusal, State};
 use window::least;
 
 // The two lent buffers.
@@ -125,35 +125,33 @@ pub fn take(s: State, carry: &mut [u8], chunk: &[u8], t: usize) -> Taken
 }
 
 // Refusal 7, where a place passes the end of its side.
-pub fn may_view(carry: &[u8], chunk: &[u8], place: Place) -> Leave
+pub fn may_view(carry: &[u8], chunk: &[u8], place: Place) -> Result<(), Refusal>
     ensures { result ≡ may_view carry.now chunk.now place }
 {
-    let side = place.side;
-    match side {
+    match place.side {
         Side::Carry => within(place, carry.len()),
         Side::Chunk => within(place, chunk.len()),
     }
 }
 
 // Refusal 7 on a side of so many bytes. No sum is made: a place may hold any number.
-fn within(place: Place, side_len: usize) -> Leave
+fn within(place: Place, side_len: usize) -> Result<(), Refusal>
     ensures { result ≡ view_leave place side_len }
 {
     if side_len < place.start {
-        return Leave::Denied(Refusal::BadPlace);
+        return Err(Refusal::BadPlace);
     }
     if side_len - place.start < place.len {
-        return Leave::Denied(Refusal::BadPlace);
+        return Err(Refusal::BadPlace);
     }
-    Leave::Granted
+    Ok(())
 }
 
 // The part of the carry or of the chunk that a place names; refused, the empty beginning of the carry.
 pub fn view<'a>(carry: &'a [u8], chunk: &'a [u8], place: Place) -> &'a [u8]
     ensures { result.now ≡ view carry.now chunk.now place }
 {
-    let side = place.side;
-    match side {
+    match place.side {
         Side::Carry => part_of(carry, carry, place),
         Side::Chunk => part_of(chunk, carry, place),
     }
@@ -163,13 +161,11 @@ pub fn view<'a>(carry: &'a [u8], chunk: &'a [u8], place: Place) -> &'a [u8]
 fn part_of<'a>(side: &'a [u8], carry: &'a [u8], place: Place) -> &'a [u8]
     ensures { result.now ≡ view_in side.now carry.now place (view_leave place (length side.now)) }
 {
-    let start = place.start;
-    let leave = within(place, side.len());
-    match leave {
-        Leave::Denied(_) => &carry[..0],
-        Leave::Granted => {
-            let end = start + place.len;
-            &side[start..end]
+    match within(place, side.len()) {
+        Err(_) => &carry[..0],
+        Ok(()) => {
+            let end = place.start + place.len;
+            &side[place.start..end]
         }
     }
 }

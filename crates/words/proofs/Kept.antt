@@ -1,4 +1,5 @@
 -- The words that an operation does not write are its state's all the same: they say what was read.
+use Rattle.std.specs.Prelude.{Result, Ok, Err, ⊤, Some}
 use mathlib.Core.Path.{◌≡◌, refl, sym, ap, ◌∙◌}
 use mathlib.Core.Logic.{◌≢◌}
 use mathlib.Core.Bool.{true}
@@ -10,7 +11,6 @@ use lib.Seq.{sets, get_or-set_other}
 use Rattle.window.proofs.Pick.{by_pick}
 use Rattle.state.specs.declared.State.{State}
 use Rattle.state.specs.declared.Refusal.{Refusal}
-use Rattle.state.specs.declared.Leave.{Leave, TheVariants.{Granted, Denied}}
 use Rattle.state.specs.Words.{width, idle}
 use Rattle.state.specs.Refusals.{may_open, may_use}
 use Rattle.state.proofs.Window.{Setup, setup_of}
@@ -19,7 +19,6 @@ use Rattle.opening.specs.declared.Closed.{Closed}
 use Rattle.opening.specs.Operations.{open_on, opening, close_on, closing}
 use Rattle.framer.specs.Step.{step_on, step}
 use Rattle.framer.proofs.Account.{step_keeps}
-use Rattle.words.specs.declared.Read.TheVariants.{Is}
 use Rattle.words.specs.Words.{mode_no, open_no, state_by, read_state, with_state, opened_words, stepped_words, closed_words}
 use Rattle.words.proofs.Refused.{Said, set_same, read_is, mode_word, open_word, same_words}
 
@@ -30,21 +29,21 @@ module _ (s : State) (carry chunk : List ℕ) where
   abbrev Opening : State → Type 0
   Opening t = (setup_of t ≡ setup_of s) × ((t.live ≡ s.live) × (t.«open» ≡ true))
 
-  pub open_keeps : (opening s carry chunk).leave ≡ Granted → Opening (opening s carry chunk).state
+  pub open_keeps : (opening s carry chunk).leave ≡ Ok tt → Opening (opening s carry chunk).state
   unfolding opening
   open_keeps = go (may_open s (length carry) (length chunk))
     where
-      go : (l : Leave) → (open_on s carry chunk l).leave ≡ Granted → Opening (open_on s carry chunk l).state
-      go (Denied r) e = let z : ◌≡◌ {A = ℕ} 0 1 = cc in absurd (omega arith)
-      go Granted e = by_pick Opening (λ _. (refl, (refl, refl))) (λ _. (refl, (refl, refl)))
+      go : (l : Result ⊤ Refusal) → (open_on s carry chunk l).leave ≡ Ok tt → Opening (open_on s carry chunk l).state
+      go (Err r) e = let z : ◌≡◌ {A = ℕ} 0 1 = cc in absurd (omega arith)
+      go (Ok tt) e = by_pick Opening (λ _. (refl, (refl, refl))) (λ _. (refl, (refl, refl)))
 
-  pub open_refused : (r : Refusal) → (opening s carry chunk).leave ≡ Denied r → (opening s carry chunk).state ≡ s
+  pub open_refused : (r : Refusal) → (opening s carry chunk).leave ≡ Err r → (opening s carry chunk).state ≡ s
   unfolding opening
   open_refused r = go (may_open s (length carry) (length chunk))
     where
-      go : (l : Leave) → (open_on s carry chunk l).leave ≡ Denied r → (open_on s carry chunk l).state ≡ s
-      go (Denied q) e = refl
-      go Granted e = let z : ◌≡◌ {A = ℕ} 0 1 = cc in absurd (omega arith)
+      go : (l : Result ⊤ Refusal) → (open_on s carry chunk l).leave ≡ Err r → (open_on s carry chunk l).state ≡ s
+      go (Err q) e = refl
+      go (Ok tt) e = let z : ◌≡◌ {A = ℕ} 0 1 = cc in absurd (omega arith)
 
   -- a step: mode, MAX, C, open and the chunk's length
   abbrev Stepping : State → Type 0
@@ -54,37 +53,37 @@ module _ (s : State) (carry chunk : List ℕ) where
   unfolding step
   step_stays = go (may_use s (length carry) (length chunk)) refl
     where
-      go : (l : Leave) → may_use s (length carry) (length chunk) ≡ l → Stepping (step_on s carry chunk l).result.state
-      go (Denied r) e = (refl, (refl, refl))
-      go Granted e =
+      go : (l : Result ⊤ Refusal) → may_use s (length carry) (length chunk) ≡ l → Stepping (step_on s carry chunk l).result.state
+      go (Err r) e = (refl, (refl, refl))
+      go (Ok tt) e =
           let k = step_keeps chunk (suc (width s)) s carry (use_granted s carry chunk e).ready.sane (omega arith) in
           (k.setup, (k.opens, k.chunks))
 
   -- a close: mode, MAX and C
-  pub close_keeps : (closing s carry chunk).result.leave ≡ Granted
+  pub close_keeps : (closing s carry chunk).result.leave ≡ Ok tt
       → (closing s carry chunk).result.state ≡ idle s.mode s.max s.cap (closing s carry chunk).result.kept
   unfolding closing
   close_keeps = go (may_use s (length carry) (length chunk))
     where
-      go : (l : Leave) → (close_on s carry chunk l).result.leave ≡ Granted
+      go : (l : Result ⊤ Refusal) → (close_on s carry chunk l).result.leave ≡ Ok tt
           → (close_on s carry chunk l).result.state ≡ idle s.mode s.max s.cap (close_on s carry chunk l).result.kept
-      go (Denied r) e = let z : ◌≡◌ {A = ℕ} 0 1 = cc in absurd (omega arith)
-      go Granted e = refl
+      go (Err r) e = let z : ◌≡◌ {A = ℕ} 0 1 = cc in absurd (omega arith)
+      go (Ok tt) e = refl
 
   abbrev Refused : Closed → Refusal → Type 0
-  Refused o r = o ≡ record { leave = Denied r; used = 0; kept = 0; lost = 0; state = s }
+  Refused o r = o ≡ record { leave = Err r; used = 0; kept = 0; lost = 0; state = s }
 
-  pub close_refused : (r : Refusal) → (closing s carry chunk).result.leave ≡ Denied r → Refused (closing s carry chunk).result r
+  pub close_refused : (r : Refusal) → (closing s carry chunk).result.leave ≡ Err r → Refused (closing s carry chunk).result r
   unfolding closing
   close_refused r = go (may_use s (length carry) (length chunk))
     where
-      go : (l : Leave) → (close_on s carry chunk l).result.leave ≡ Denied r → Refused (close_on s carry chunk l).result r
-      go (Denied q) e = rw e
-      go Granted e = let z : ◌≡◌ {A = ℕ} 0 1 = cc in absurd (omega arith)
+      go : (l : Result ⊤ Refusal) → (close_on s carry chunk l).result.leave ≡ Err r → Refused (close_on s carry chunk l).result r
+      go (Err q) e = rw e
+      go (Ok tt) e = let z : ◌≡◌ {A = ℕ} 0 1 = cc in absurd (omega arith)
 
 -- ---- its words, over those that it was read from
 
-module _ (w : List ℕ) (s : State) (read : read_state w ≡ Is s) where
+module _ (w : List ℕ) (s : State) (read : read_state w ≡ Some s) where
   said : Said w s
   said = read_is w s read
 

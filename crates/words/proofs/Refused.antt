@@ -1,4 +1,5 @@
 -- A refused call hands the state back, and a state that was read and is written back leaves its words as they were.
+use Rattle.std.specs.Prelude.{Option, Some, None}
 use mathlib.Core.Path.{◌≡◌, refl, sym, ap, ◌∙◌}
 use mathlib.Core.Bool.{Bool, true, false}
 use mathlib.Core.List.{List, [], ◌∷◌}
@@ -11,8 +12,6 @@ use Rattle.window.specs.declared.Mode.{Mode, TheVariants.{One, Two, Three}}
 use Rattle.window.proofs.Pick.{by_pick}
 use Rattle.state.specs.declared.State.{State}
 use Rattle.state.proofs.Granted.{none_of}
-use Rattle.words.specs.declared.ModeRead.{ModeRead, TheVariants.{Known, NoMode}}
-use Rattle.words.specs.declared.Read.TheVariants.{Is}
 use Rattle.words.specs.Words.{mode_no, open_no, with_state, read_mode, max_or_open_too_big, state_by, state_in, read_state}
 
 -- storing what stands there
@@ -23,9 +22,9 @@ set_same (x ∷ l) zero = refl
 set_same (x ∷ l) (suc i) = ap (λ (r : List ℕ). x ∷ r) (set_same l i)
 
 -- each of the six numbers is its mode's, and no other is one
-mode_back : (n : ℕ) (m : Mode) → read_mode n ≡ Known m → mode_no m ≡ n
+mode_back : (n : ℕ) (m : Mode) → read_mode n ≡ Some m → mode_no m ≡ n
 mode_back n m =
-    let P : ModeRead → Type 0 = λ r. r ≡ Known m → mode_no m ≡ n in
+    let P : Option Mode → Type 0 = λ r. r ≡ Some m → mode_no m ≡ n in
     by_pick P (λ t e. known (One false) e ∙ sym (eqb-true n 1 t))
     (λ _. by_pick P (λ t e. known (Two false) e ∙ sym (eqb-true n 2 t))
     (λ _. by_pick P (λ t e. known (Three false) e ∙ sym (eqb-true n 3 t))
@@ -34,7 +33,7 @@ mode_back n m =
     (λ _. by_pick P (λ t e. known (Three true) e ∙ sym (eqb-true n 19 t))
     (λ _ e. let z : ◌≡◌ {A = ℕ} 0 1 = cc in absurd (omega arith)))))))
   where
-    known : (k : Mode) → Known k ≡ Known m → mode_no m ≡ mode_no k
+    known : (k : Mode) → Some k ≡ Some m → mode_no m ≡ mode_no k
     known k e = let h : k ≡ m = cc in ap mode_no (sym h)
 
 open_back : (n : ℕ) → n ≤ 1 → open_no (eqb n 1) ≡ n
@@ -47,19 +46,19 @@ open_back n h = go (eqb n 1) refl
 -- words that a state was read from are one's, and it is what they say
 pub record Said (w : List ℕ) (s : State) : Type 0 where
   pub small : max_or_open_too_big w ≡ false
-  pub mode : read_mode (get_or w 0 0) ≡ Known s.mode
+  pub mode : read_mode (get_or w 0 0) ≡ Some s.mode
   pub state : state_by s.mode w ≡ s
 
-pub read_is : (w : List ℕ) (s : State) → read_state w ≡ Is s → Said w s
+pub read_is : (w : List ℕ) (s : State) → read_state w ≡ Some s → Said w s
 unfolding read_state
-read_is w s = by_pick (λ r. r ≡ Is s → Said w s) (λ _ e. let z : ◌≡◌ {A = ℕ} 0 1 = cc in absurd (omega arith)) (λ n. go (read_mode (get_or w 0 0)) refl n)
+read_is w s = by_pick (λ r. r ≡ Some s → Said w s) (λ _ e. let z : ◌≡◌ {A = ℕ} 0 1 = cc in absurd (omega arith)) (λ n. go (read_mode (get_or w 0 0)) refl n)
   where
-    go : (r : ModeRead) → read_mode (get_or w 0 0) ≡ r → max_or_open_too_big w ≡ false → state_in w r ≡ Is s → Said w s
-    go NoMode k n e = let z : ◌≡◌ {A = ℕ} 0 1 = cc in absurd (omega arith)
-    go (Known m) k n e =
+    go : (r : Option Mode) → read_mode (get_or w 0 0) ≡ r → max_or_open_too_big w ≡ false → state_in w r ≡ Some s → Said w s
+    go None k n e = let z : ◌≡◌ {A = ℕ} 0 1 = cc in absurd (omega arith)
+    go (Some m) k n e =
         let b : state_by m w ≡ s = cc in
         let h : m ≡ s.mode = ap (λ (x : State). x.mode) b in
-        record { small = n; mode = k ∙ ap Known h; state = ap (λ (x : Mode). state_by x w) (sym h) ∙ b }
+        record { small = n; mode = k ∙ ap Some h; state = ap (λ (x : Mode). state_by x w) (sym h) ∙ b }
 
 module _ (w : List ℕ) (s : State) (h : Said w s) where
   pub mode_word : mode_no s.mode ≡ get_or w 0 0

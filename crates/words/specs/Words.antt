@@ -1,5 +1,5 @@
 -- The words in which a state and an answer cross to C: include/orgnevis.h says the same to a C programmer.
-use Rattle.std.specs.Prelude.{ℕ, Bool, true, false, List, [], ◌∷◌, get_or, replicate, ltb, eqb}
+use Rattle.std.specs.Prelude.{ℕ, Bool, true, false, List, [], ◌∷◌, get_or, replicate, ltb, eqb, Option, Some, None}
 use Rattle.std.proofs.lemmas.List.Edits.{sets}
 use Rattle.window.specs.declared.Mode.{Mode, TheVariants.{One, Two, Three}}
 use Rattle.window.specs.Pick.{pick}
@@ -9,8 +9,6 @@ use Rattle.taking.specs.declared.Place.{Place}
 use Rattle.framer.specs.declared.Answer.{Answer, TheVariants.{UbxFrame, RtcmFrame, Sentence, WrongSum, NoRoom, NeedMore, Refused, WrongParity}}
 use Rattle.opening.specs.declared.Closed.{Closed}
 use Rattle.framer.specs.Answers.{side_no}
-use Rattle.words.specs.declared.ModeRead.{ModeRead, TheVariants.{Known, NoMode}}
-use Rattle.words.specs.declared.Read.{Read, TheVariants.{Is, NoState}}
 
 -- ---- a state: nine words, in the order of the header; those after them are left as they are
 
@@ -45,15 +43,15 @@ abbrev pub closed_words : ℕ → List ℕ → List ℕ
 closed_words kept words = sets words 3 (kept ∷ 0 ∷ 0 ∷ 0 ∷ 0 ∷ 0 ∷ [])
 
 -- the mode of a number, if it is one's
-abbrev pub read_mode : ℕ → ModeRead
+abbrev pub read_mode : ℕ → Option Mode
 read_mode n =
-    pick (eqb n 1) (Known (One false))
-    (pick (eqb n 2) (Known (Two false))
-    (pick (eqb n 3) (Known (Three false))
-    (pick (eqb n 17) (Known (One true))
-    (pick (eqb n 18) (Known (Two true))
-    (pick (eqb n 19) (Known (Three true))
-    NoMode)))))
+    pick (eqb n 1) (Some (One false))
+    (pick (eqb n 2) (Some (Two false))
+    (pick (eqb n 3) (Some (Three false))
+    (pick (eqb n 17) (Some (One true))
+    (pick (eqb n 18) (Some (Two true))
+    (pick (eqb n 19) (Some (Three true))
+    None)))))
 
 -- words that no state has, whatever its mode: MAX over 65,535, open not 0 or 1
 abbrev pub max_or_open_too_big : List ℕ → Bool
@@ -72,12 +70,12 @@ state_by mode words = record {
   part = get_or words 8 0;
 }
 
-abbrev pub state_in : List ℕ → ModeRead → Read
-state_in words NoMode = NoState
-state_in words (Known mode) = Is (state_by mode words)
+abbrev pub state_in : List ℕ → Option Mode → Option State
+state_in words None = None
+state_in words (Some mode) = Some (state_by mode words)
 
-unfoldable pub read_state : List ℕ → Read
-read_state words = pick (max_or_open_too_big words) NoState (state_in words (read_mode (get_or words 0 0)))
+unfoldable pub read_state : List ℕ → Option State
+read_state words = pick (max_or_open_too_big words) None (state_in words (read_mode (get_or words 0 0)))
 
 -- ---- a step's answer: eight words
 

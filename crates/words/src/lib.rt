@@ -1,32 +1,18 @@
 // The words in which the framer's states and answers cross to C. include/orgnevis.h says which word is what.
 #![tactic(auto)]
 
-ghost use Rattle.std.specs.Prelude.{◌≡◌};
+ghost use Rattle.std.specs.Prelude.{◌≡◌, ◌≤◌, slice_index};
 ghost use Rattle.state.specs.Refusals.{leave_no, refusal_no};
 ghost use Rattle.framer.specs.Answers.{side_no};
 ghost use Rattle.framer.specs.Step.{frame_at};
-ghost use Rattle.words.specs.Words.{mode_no, open_no, read_mode, max_or_open_too_big, read_state, with_state, opened_words, stepped_words, closed_words, frame_words, plain_words, wrong_words, answer_words, report_words};
+ghost use Rattle.words.specs.Words.{mode_no, open_no, read_mode, max_or_open_too_big, state_by, read_state, with_state, opened_words, stepped_words, closed_words, frame_words, plain_words, wrong_words, answer_words, report_words};
 ghost use Rattle.words.specs.Plainly.{ModeReadsPlainly, ReadsPlainly};
 
 use claim::Kind;
 use framer::Answer;
-use state::{Leave, Refusal, State};
+use state::{Refusal, State};
 use taking::{Place, Side};
 use window::Mode;
-
-// A state read from words, where they are those of a state.
-#[derive(Clone, Copy)]
-pub enum Read {
-    Is(State),
-    NoState,
-}
-
-// A mode read from a number, where that is a mode's.
-#[derive(Clone, Copy)]
-pub enum ModeRead {
-    Known(Mode),
-    NoMode,
-}
 
 fn mode_no(mode: Mode) -> u64
     ensures { result ≡ mode_no mode }
@@ -39,53 +25,31 @@ fn mode_no(mode: Mode) -> u64
 }
 
 // The mode of a number, if it is one's.
-pub fn read_mode(n: u64) -> ModeRead
+pub fn read_mode(n: u64) -> Option<Mode>
     ensures { result ≡ read_mode n }
 {
-    if n == 1 {
-        let mode = Mode::One(false);
-        return ModeRead::Known(mode);
+    match n {
+        1 => Some(Mode::One(false)),
+        2 => Some(Mode::Two(false)),
+        3 => Some(Mode::Three(false)),
+        17 => Some(Mode::One(true)),
+        18 => Some(Mode::Two(true)),
+        19 => Some(Mode::Three(true)),
+        _ => None,
     }
-    if n == 2 {
-        let mode = Mode::Two(false);
-        return ModeRead::Known(mode);
-    }
-    if n == 3 {
-        let mode = Mode::Three(false);
-        return ModeRead::Known(mode);
-    }
-    if n == 17 {
-        let mode = Mode::One(true);
-        return ModeRead::Known(mode);
-    }
-    if n == 18 {
-        let mode = Mode::Two(true);
-        return ModeRead::Known(mode);
-    }
-    if n == 19 {
-        let mode = Mode::Three(true);
-        return ModeRead::Known(mode);
-    }
-    ModeRead::NoMode
 }
 
 // The mode of a number, where it reads no parity; of another number it is not told.
-fn plain_mode(n: u64) -> ModeRead
+fn plain_mode(n: u64) -> Option<Mode>
     ensures { ModeReadsPlainly n result }
 {
-    if n == 1 {
-        let plain = Mode::One(false);
-        return ModeRead::Known(plain);
-    }
-    if n == 2 {
-        let plain = Mode::Two(false);
-        return ModeRead::Known(plain);
-    }
-    if n == 3 {
-        let plain = Mode::Three(false);
-        return ModeRead::Known(plain);
-    }
-    ModeRead::NoMode
+    let plain = match n {
+        1 => Mode::One(false),
+        2 => Mode::Two(false),
+        3 => Mode::Three(false),
+        _ => return None,
+    };
+    Some(plain)
 }
 
 fn open_no(open: bool) -> u64
@@ -117,12 +81,12 @@ pub fn refusal_no(refusal: Refusal) -> u64
     }
 }
 
-pub fn leave_no(leave: Leave) -> u64
+pub fn leave_no(leave: Result<(), Refusal>) -> u64
     ensures { result ≡ leave_no leave }
 {
     match leave {
-        Leave::Granted => 0,
-        Leave::Denied(refusal) => refusal_no(refusal),
+        Ok(()) => 0,
+        Err(refusal) => refusal_no(refusal),
     }
 }
 
@@ -136,69 +100,54 @@ fn max_or_open_too_big(words: &[u64; 24]) -> bool
     1 < words[6]
 }
 
-// The state that words say, if they are one's.
-pub fn read_state(words: &[u64; 24]) -> Read
-    ensures { result ≡ read_state words.now }
+// The state of a mode that the other words say.
+fn state_by(mode: Mode, words: &[u64; 24]) -> State
+    requires { slice_index words.now 1 ≤ 65535 }
+    ensures { result ≡ state_by mode words.now }
 {
-    if max_or_open_too_big(words) {
-        return Read::NoState;
-    }
-    let read = read_mode(words[0]);
-    match read {
-        ModeRead::NoMode => Read::NoState,
-        ModeRead::Known(mode) => {
-            let state = State {
-                mode,
-                max: words[1] as u16,
-                cap: words[2] as usize,
-                live: words[3] as usize,
-                off: words[4] as usize,
-                used: words[5] as usize,
-                open: words[6] == 1,
-                chunk: words[7] as usize,
-                part: words[8] as usize,
-            };
-            Read::Is(state)
-        }
+    State {
+        mode,
+        max: words[1] as u16,
+        cap: words[2] as usize,
+        live: words[3] as usize,
+        off: words[4] as usize,
+        used: words[5] as usize,
+        open: words[6] == 1,
+        chunk: words[7] as usize,
+        part: words[8] as usize,
     }
 }
 
+// The state that words say, if they are one's.
+pub fn read_state(words: &[u64; 24]) -> Option<State>
+    ensures { result ≡ read_state words.now }
+{
+    if max_or_open_too_big(words) {
+        return None;
+    }
+    let mode = read_mode(words[0])?;
+    Some(state_by(mode, words))
+}
+
 // The state that words say, where it is open or idle as asked and its mode reads no parity; another is not told.
-pub fn read_plain(words: &[u64; 24], open: bool) -> Read
+pub fn read_plain(words: &[u64; 24], open: bool) -> Option<State>
     ensures { ReadsPlainly words.now result }
 {
     if words[1] > 65535 {
-        return Read::NoState;
+        return None;
     }
     if words[6] != open_no(open) {
-        return Read::NoState;
+        return None;
     }
-    let read = plain_mode(words[0]);
-    match read {
-        ModeRead::NoMode => Read::NoState,
-        ModeRead::Known(mode) => {
-            let state = State {
-                mode,
-                max: words[1] as u16,
-                cap: words[2] as usize,
-                live: words[3] as usize,
-                off: words[4] as usize,
-                used: words[5] as usize,
-                open,
-                chunk: words[7] as usize,
-                part: words[8] as usize,
-            };
-            Read::Is(state)
-        }
-    }
+    let mode = plain_mode(words[0])?;
+    Some(state_by(mode, words))
 }
 
 // A state's nine words; the others stay.
 pub fn write_state(s: State, words: &mut [u64; 24])
     ensures { words.new ≡ with_state s words.old }
 {
-    let mode = s.mode;
-    words[0] = mode_no(mode);
+    words[0] = mode_no(s.mode);
     words[1] = s.max as u64;
     words[2] = s.cap as u64;
     words[3] = s.live as u64;
@@ -253,14 +202,12 @@ pub fn write_plain(out: &mut [u64; 8], number: u64, at: u64, x: u64, y: u64)
 fn write_frame(out: &mut [u64; 8], number: u64, at: u64, class: u64, id: u64, place: Place)
     ensures { out.new ≡ frame_words number at class id place }
 {
-    let side = place.side;
-    let side_word = side_no(side);
     *out = [
         number,
         at,
         class,
         id,
-        side_word,
+        side_no(place.side),
         place.start as u64,
         place.len as u64,
         0,
@@ -291,39 +238,21 @@ pub fn write_wrong(
     ];
 }
 
-fn word8(x: u8) -> u64
-    ensures { result ≡ x }
-{
-    x as u64
-}
-
-fn word32(x: u32) -> u64
-    ensures { result ≡ x }
-{
-    x as u64
-}
-
-pub fn word(x: usize) -> u64
-    ensures { result ≡ x }
-{
-    x as u64
-}
-
 // A frame that is handed out: its kind, position and place.
 pub fn write_hand(out: &mut [u64; 8], kind: Kind, at: usize, place: Place)
     ensures { out.new ≡ answer_words (frame_at kind at place) }
 {
     match kind {
-        Kind::Ubx { class, id, n: _ } => write_frame(
+        Kind::Ubx { class, id, .. } => write_frame(
             out,
             1,
-            word(at),
-            word8(class),
-            word8(id),
+            at as u64,
+            u64::from(class),
+            u64::from(id),
             place,
         ),
-        Kind::Rtcm { n: _, parity: _ } => write_frame(out, 2, word(at), 0, 0, place),
-        Kind::Sentence { i: _ } => write_frame(out, 3, word(at), 0, 0, place),
+        Kind::Rtcm { .. } => write_frame(out, 2, at as u64, 0, 0, place),
+        Kind::Sentence { .. } => write_frame(out, 3, at as u64, 0, 0, place),
     }
 }
 
@@ -337,9 +266,9 @@ pub fn write_answer(answer: Answer, out: &mut [u64; 8])
             id,
             at,
             place,
-        } => write_frame(out, 1, word(at), word8(class), word8(id), place),
-        Answer::RtcmFrame { at, place } => write_frame(out, 2, word(at), 0, 0, place),
-        Answer::Sentence { at, place } => write_frame(out, 3, word(at), 0, 0, place),
+        } => write_frame(out, 1, at as u64, u64::from(class), u64::from(id), place),
+        Answer::RtcmFrame { at, place } => write_frame(out, 2, at as u64, 0, 0, place),
+        Answer::Sentence { at, place } => write_frame(out, 3, at as u64, 0, 0, place),
         Answer::WrongSum {
             class,
             id,
@@ -348,15 +277,15 @@ pub fn write_answer(answer: Answer, out: &mut [u64; 8])
             expect,
             got,
         } => write_wrong(out, at, class, id, n, expect, got),
-        Answer::NoRoom { at, size } => write_plain(out, 5, word(at), word(size), 0),
+        Answer::NoRoom { at, size } => write_plain(out, 5, at as u64, size as u64, 0),
         Answer::NeedMore => write_plain(out, 6, 0, 0, 0),
         Answer::Refused(refusal) => write_plain(out, 7, 0, refusal_no(refusal), 0),
         Answer::WrongParity { at, expect, got } => write_plain(
             out,
             8,
-            word(at),
-            word32(expect),
-            word32(got),
+            at as u64,
+            u64::from(expect),
+            u64::from(got),
         ),
     }
 }

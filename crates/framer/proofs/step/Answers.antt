@@ -6,13 +6,13 @@ use Rattle.framer.proofs.step.Goals as goal
 
 pub step_well-requires : goal.step_well-requires
 step_well-requires c = let x = c.args in
-    (use_granted x.s x.carry.now x.chunk.now (sym c.may_use-leave.ensures ∙ c.in-Granted.is)).ready
+    (use_granted x.s x.carry.now x.chunk.now (sym c.may_use.ensures ∙ c.in-Ok.is)).ready
 
-pub returns-in-Denied : goal.returns-in-Denied
+pub returns-in-Err : goal.returns-in-Err
 unfolding step
-returns-in-Denied c = rw (sym c.may_use-leave.ensures ∙ c.in-Denied.is) (record { number = refl; values = refl; state = refl; bytes = refl })
+returns-in-Err c = rw (sym c.may_use.ensures ∙ c.in-Err.is) (record { number = refl; values = refl; state = refl; bytes = refl })
 
-pub returns-in-Granted : goal.returns-in-Granted
+pub returns-in-Ok : goal.returns-in-Ok
 unfolding step
-returns-in-Granted c = let r = c.step_well.ensures.value in
-    rw (sym c.may_use-leave.ensures ∙ c.in-Granted.is) (record { number = rw r; values = rw r; state = rw r; bytes = c.step_well.ensures.carry_after })
+returns-in-Ok c = let r = c.step_well.ensures.value in
+    rw (sym c.may_use.ensures ∙ c.in-Ok.is) (record { number = rw r; values = rw r; state = rw r; bytes = c.step_well.ensures.carry_after })

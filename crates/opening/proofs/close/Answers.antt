@@ -6,13 +6,13 @@ use Rattle.opening.proofs.close.Goals as goal
 
 pub close_well-requires : goal.close_well-requires
 close_well-requires c = let x = c.args in
-    (use_granted x.s x.carry.now x.chunk.now (sym c.may_use-leave.ensures ∙ c.in-Granted.is)).ready
+    (use_granted x.s x.carry.now x.chunk.now (sym c.may_use.ensures ∙ c.in-Ok.is)).ready
 
-pub returns-in-Denied : goal.returns-in-Denied
+pub returns-in-Err : goal.returns-in-Err
 unfolding closing
-returns-in-Denied c = rw (sym c.may_use-leave.ensures ∙ c.in-Denied.is) (record { refusal = refl; used = refl; kept = refl; lost = refl; state = refl; bytes = refl })
+returns-in-Err c = rw (sym c.may_use.ensures ∙ c.in-Err.is) (record { refusal = refl; used = refl; kept = refl; lost = refl; state = refl; bytes = refl })
 
-pub returns-in-Granted : goal.returns-in-Granted
+pub returns-in-Ok : goal.returns-in-Ok
 unfolding closing
-returns-in-Granted c = let r = c.close_well.ensures.value in
-    rw (sym c.may_use-leave.ensures ∙ c.in-Granted.is) (record { refusal = rw r; used = rw r; kept = rw r; lost = rw r; state = rw r; bytes = c.close_well.ensures.carry_after })
+returns-in-Ok c = let r = c.close_well.ensures.value in
+    rw (sym c.may_use.ensures ∙ c.in-Ok.is) (record { refusal = rw r; used = rw r; kept = rw r; lost = rw r; state = rw r; bytes = c.close_well.ensures.carry_after })

@@ -5,14 +5,14 @@ use Rattle.opening.specs.Operations.{opening}
 use Rattle.opening.proofs.Ready.{noted_ready}
 use Rattle.opening.proofs.open.Goals as goal
 
-pub open_well-state-requires : goal.open_well-state-requires
-open_well-state-requires c = let x = c.args in
-    (noted_ready x.s x.carry.now x.chunk.now (open_granted x.s x.carry.now x.chunk.now (sym c.may_open-leave.ensures ∙ c.in-Granted.is))).1
+pub open_well-requires : goal.open_well-requires
+open_well-requires c = let x = c.args in
+    (noted_ready x.s x.carry.now x.chunk.now (open_granted x.s x.carry.now x.chunk.now (sym c.may_open.ensures ∙ c.in-Ok.is))).1
 
-pub returns-in-Denied : goal.returns-in-Denied
+pub returns-in-Err : goal.returns-in-Err
 unfolding opening
-returns-in-Denied c = rw (sym c.may_open-leave.ensures ∙ c.in-Denied.is) (record { refusal = refl; state = refl })
+returns-in-Err c = rw (sym c.may_open.ensures ∙ c.in-Err.is) (record { refusal = refl; state = refl })
 
-pub returns-in-Granted : goal.returns-in-Granted
+pub returns-in-Ok : goal.returns-in-Ok
 unfolding opening
-returns-in-Granted c = rw (sym c.may_open-leave.ensures ∙ c.in-Granted.is) (record { refusal = refl; state = c.open_well-state.ensures })
+returns-in-Ok c = rw (sym c.may_open.ensures ∙ c.in-Ok.is) (record { refusal = refl; state = c.open_well.ensures })

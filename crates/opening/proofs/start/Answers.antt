@@ -7,8 +7,8 @@ use Rattle.opening.proofs.start.Goals as goal
 
 pub returns-then-carry-gt-LIMIT : goal.returns-then-carry-gt-LIMIT
 unfolding start pick
-returns-then-carry-gt-LIMIT c = rw (lt-ltb _ _ c.if-carry-gt-LIMIT.true) (record { refusal = refl; state = c.idle-state.ensures })
+returns-then-carry-gt-LIMIT c = rw (lt-ltb _ _ c.if-carry-gt-LIMIT.true) (record { refusal = refl; state = c.idle.ensures })
 
 pub returns : goal.returns
 unfolding start pick
-returns c = rw (le-ltb _ _ c.if-carry-gt-LIMIT.false) (record { refusal = refl; state = c.idle-state-2.ensures })
+returns c = rw (le-ltb _ _ c.if-carry-gt-LIMIT.false) (record { refusal = refl; state = c.idle-2.ensures })

@@ -1,7 +1,7 @@
 -- `orgnevis::orgnevis_close` meets its contract: done at once or in full, the answer is the same.
+use Rattle.std.specs.Prelude.{Some}
 use mathlib.Core.Path.{sym, ap, ◌∙◌}
 use Rattle.opening.specs.Operations.{CloseOut}
-use Rattle.words.specs.declared.Read.TheVariants.{Is}
 use Rattle.words.specs.Plainly.{ReadsPlainly}
 use Rattle.words.proofs.Kept.{close_keeps, closed_words_are}
 use Rattle.orgnevis.specs.Calls.{closes}
@@ -14,8 +14,8 @@ close_at_once-requires c = c.is_usable.ensures c.if-is_usable.true
 pub returns-then-is_usable : goal.returns-then-is_usable
 unfolding closes
 returns-then-is_usable c = let x = c.args in
-    let s = c.in-Is.open in
-    let p : ReadsPlainly x.state.now (Is s) = rw c.in-Is.is at c.read_plain-read.ensures in
+    let s = c.in-Some.open in
+    let p : ReadsPlainly x.state.now (Some s) = rw c.in-Some.is at c.read_plain.ensures in
     let e = p.0 in
     let g = ap (λ (o : CloseOut). o.result.leave) (closes_well s x.carry.now x.chunk.now (c.is_usable.ensures c.if-is_usable.true)) in
     let k = close_keeps s x.carry.now x.chunk.now g in

@@ -1,7 +1,7 @@
 -- `orgnevis::orgnevis_open` meets its contract: done at once or in full, the answer is the same.
+use Rattle.std.specs.Prelude.{Some}
 use mathlib.Core.Path.{◌≡◌, sym, ap, ◌∙◌}
 use Rattle.opening.specs.declared.Opened.{Opened}
-use Rattle.words.specs.declared.Read.TheVariants.{Is}
 use Rattle.words.specs.Plainly.{ReadsPlainly}
 use Rattle.words.proofs.Kept.{open_keeps, opened_words_are}
 use Rattle.orgnevis.specs.Calls.{opens}
@@ -15,8 +15,8 @@ open_at_once-requires c = c.opens.ensures c.if-opens.true
 pub returns-then-open_at_once : goal.returns-then-open_at_once
 unfolding opens
 returns-then-open_at_once c = let x = c.args in
-    let s = c.in-Is.s in
-    let p : ReadsPlainly x.state.now (Is s) = rw c.in-Is.is at c.read_plain-read.ensures in
+    let s = c.in-Some.s in
+    let p : ReadsPlainly x.state.now (Some s) = rw c.in-Some.is at c.read_plain.ensures in
     let e = p.0 in
     let g = ap (λ (o : Opened). o.leave) (opens_well s x.carry.now x.chunk.now (c.opens.ensures c.if-opens.true)) in
     let k = open_keeps s x.carry.now x.chunk.now g in
@@ -28,4 +28,4 @@ returns-after-opens c = let x = c.args in
       | then-opens+else-open_at_once w ↦ w.state-is ∙ w.open_at_once.ensures ∙ rw w.if-open_at_once.false
       | else-opens w ↦ w.state-is
     ] in
-    rw (← same) c.full_open-in-Is.ensures
+    rw (← same) c.full_open-in-Some.ensures

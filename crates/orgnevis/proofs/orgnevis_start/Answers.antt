@@ -6,15 +6,15 @@ use Rattle.opening.proofs.Determined.{opens_is}
 use Rattle.orgnevis.specs.Calls.{starts}
 use Rattle.orgnevis.proofs.orgnevis_start.Goals as goal
 
-pub returns-in-NoMode : goal.returns-in-NoMode
+pub returns-in_default : goal.returns-in_default
 unfolding starts
-returns-in-NoMode c = let e = sym c.read_mode-read.ensures ∙ c.in-NoMode.is in
+returns-in_default c = let e = sym c.read_mode.ensures ∙ c.in_default.is in
     record { value = rw e; state_after = rw e }
 
-pub returns-in-Known : goal.returns-in-Known
+pub returns : goal.returns
 unfolding starts
-returns-in-Known c = let x = c.args in
-    let m = c.in-Known.mode in
-    let e = sym c.read_mode-read.ensures ∙ c.in-Known.is in
+returns c = let x = c.args in
+    let m = c.in-Some.mode in
+    let e = sym c.read_mode.ensures ∙ c.in-Some.is in
     let r = opens_is (start m x.max (length x.carry.now)) c.start-started.result c.start-started.ensures in
     record { value = c.leave_no.ensures ∙ rw (e, r); state_after = c.write_state.ensures ∙ rw (e, r) }

@@ -1,8 +1,8 @@
 -- `orgnevis::orgnevis_step` meets its contract: done at once or in full, the answer is the same.
+use Rattle.std.specs.Prelude.{Some}
 use mathlib.Core.Path.{◌≡◌, sym, ◌∙◌}
 use mathlib.Core.Bool.{true, false}
 use Rattle.state.proofs.Granted.{use_granted}
-use Rattle.words.specs.declared.Read.TheVariants.{Is}
 use Rattle.words.specs.Plainly.{ReadsPlainly}
 use Rattle.words.proofs.Kept.{step_stays, stepped_words_are}
 use Rattle.orgnevis.specs.Calls.{steps}
@@ -10,14 +10,14 @@ use Rattle.quick_chunk.proofs.AtOnce.{steps_well}
 use Rattle.orgnevis.proofs.orgnevis_step.Goals as goal
 
 pub step_at_once-requires : goal.step_at_once-requires
-step_at_once-requires c = let x = c.args in let s = c.in-Is.s in
-    let p : ReadsPlainly x.state.now (Is s) = rw c.in-Is.is at c.read_plain-read.ensures in
+step_at_once-requires c = let x = c.args in let s = c.in-Some.s in
+    let p : ReadsPlainly x.state.now (Some s) = rw c.in-Some.is at c.read_plain.ensures in
     record { ready = (use_granted s x.carry.now x.chunk.now (c.is_usable.ensures c.if-is_usable.true)).ready; mode_value = p.1 }
 
 pub returns-then-step_at_once : goal.returns-then-step_at_once
 unfolding steps
-returns-then-step_at_once c = let x = c.args in let s = c.in-Is.s in
-    let p : ReadsPlainly x.state.now (Is s) = rw c.in-Is.is at c.read_plain-read.ensures in
+returns-then-step_at_once c = let x = c.args in let s = c.in-Some.s in
+    let p : ReadsPlainly x.state.now (Some s) = rw c.in-Some.is at c.read_plain.ensures in
     let e = p.0 in
     let o = steps_well s x.carry.now x.chunk.now (c.is_usable.ensures c.if-is_usable.true) in
     let at_once = c.step_at_once in

@@ -12,4 +12,4 @@ pub returns : goal.returns
 returns c = let x = c.args in
     let g = closes_well x.s x.carry.now x.chunk.now c.requires in
     let r = c.close_well-report.ensures in
-    record { state_after = c.write_closed.ensures ∙ rw (g, r.value); out_after = c.write_report.ensures ∙ rw (g, c.word.ensures, c.word-2.ensures, c.word-3.ensures, r.value); carry_after = r.carry_after ∙ rw g }
+    record { state_after = c.write_closed.ensures ∙ rw (g, r.value); out_after = c.write_report.ensures ∙ rw (g, r.value); carry_after = r.carry_after ∙ rw g }

@@ -16,8 +16,8 @@ bounds-carry-0 c = let x = c.args in
     let l = h.lives in
     omega arith
 
-pub returns-then-live-gt0 : goal.returns-then-live-gt0
-returns-then-live-gt0 c = let x = c.args in
+pub returns-then-s-gt0 : goal.returns-then-s-gt0
+returns-then-s-gt0 c = let x = c.args in
     let e = sym c.is_sync.ensures ∙ c.if-not-is_sync.false in
     c.write_opened.ensures ∙ rw (at_carry x.s x.carry.now x.chunk.now c.requires (omega arith) e)
 

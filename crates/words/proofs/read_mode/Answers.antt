@@ -1,32 +1,33 @@
 -- `words::read_mode` meets its contract: a number after the other.
-use borrow.Author.Tests.{eq-eqb, ne_eqb}
+use Rattle.std.proofs.Common.{rules}
+use borrow.Author.Tests.{ne_eqb}
 use Rattle.window.specs.Pick.{pick}
 use Rattle.words.proofs.read_mode.Goals as goal
 
-pub returns-then-n-eq1 : goal.returns-then-n-eq1
+pub returns-in-1 : goal.returns-in-1
 unfolding pick
-returns-then-n-eq1 c = rw (eq-eqb _ 1 c.if-n-eq1.true)
+returns-in-1 c = rw c.in-1.is
 
-pub returns-then-n-eq2 : goal.returns-then-n-eq2
+pub returns-in-2 : goal.returns-in-2
 unfolding pick
-returns-then-n-eq2 c = rw (ne_eqb _ 1 c.if-n-eq1.false, eq-eqb _ 2 c.if-n-eq2.true)
+returns-in-2 c = rw c.in-2.is
 
-pub returns-then-n-eq3 : goal.returns-then-n-eq3
+pub returns-in-3 : goal.returns-in-3
 unfolding pick
-returns-then-n-eq3 c = rw (ne_eqb _ 1 c.if-n-eq1.false, ne_eqb _ 2 c.if-n-eq2.false, eq-eqb _ 3 c.if-n-eq3.true)
+returns-in-3 c = rw c.in-3.is
 
-pub returns-then-n-eq17 : goal.returns-then-n-eq17
+pub returns-in-17 : goal.returns-in-17
 unfolding pick
-returns-then-n-eq17 c = rw (ne_eqb _ 1 c.if-n-eq1.false, ne_eqb _ 2 c.if-n-eq2.false, ne_eqb _ 3 c.if-n-eq3.false, eq-eqb _ 17 c.if-n-eq17.true)
+returns-in-17 c = rw c.in-17.is
 
-pub returns-then-n-eq18 : goal.returns-then-n-eq18
+pub returns-in-18 : goal.returns-in-18
 unfolding pick
-returns-then-n-eq18 c = rw (ne_eqb _ 1 c.if-n-eq1.false, ne_eqb _ 2 c.if-n-eq2.false, ne_eqb _ 3 c.if-n-eq3.false, ne_eqb _ 17 c.if-n-eq17.false, eq-eqb _ 18 c.if-n-eq18.true)
+returns-in-18 c = rw c.in-18.is
 
-pub returns-then-n-eq19 : goal.returns-then-n-eq19
+pub returns-in-19 : goal.returns-in-19
 unfolding pick
-returns-then-n-eq19 c = rw (ne_eqb _ 1 c.if-n-eq1.false, ne_eqb _ 2 c.if-n-eq2.false, ne_eqb _ 3 c.if-n-eq3.false, ne_eqb _ 17 c.if-n-eq17.false, ne_eqb _ 18 c.if-n-eq18.false, eq-eqb _ 19 c.if-n-eq19.true)
+returns-in-19 c = rw c.in-19.is
 
-pub returns : goal.returns
+pub returns-in_default : goal.returns-in_default
 unfolding pick
-returns c = rw (ne_eqb _ 1 c.if-n-eq1.false, ne_eqb _ 2 c.if-n-eq2.false, ne_eqb _ 3 c.if-n-eq3.false, ne_eqb _ 17 c.if-n-eq17.false, ne_eqb _ 18 c.if-n-eq18.false, ne_eqb _ 19 c.if-n-eq19.false)
+returns-in_default c = search rules

@@ -3,4 +3,4 @@ use borrow.Author.Rules.{rules}
 use Rattle.words.proofs.write_frame.Goals as goal
 
 pub returns : goal.returns
-returns c = rw c.side_no-side_word.ensures
+returns c = rw c.side_no.ensures
