@@ -62,14 +62,14 @@ fn frame_at(kind: Kind, at: usize, place: Place) -> Answer
     ensures { result ≡ frame_at kind at place }
 {
     match kind {
-        Kind::Ubx { class, id, n: _ } => Answer::UbxFrame {
+        Kind::Ubx { class, id, .. } => Answer::UbxFrame {
             class,
             id,
             at,
             place,
         },
-        Kind::Rtcm { n: _, parity: _ } => Answer::RtcmFrame { at, place },
-        Kind::Sentence { i: _ } => Answer::Sentence { at, place },
+        Kind::Rtcm { .. } => Answer::RtcmFrame { at, place },
+        Kind::Sentence { .. } => Answer::Sentence { at, place },
     }
 }
 
@@ -93,7 +93,7 @@ fn tale_at(tale: Tale, at: usize) -> Answer
             got,
         },
         Tale::WrongParity { expect, got } => Answer::WrongParity { at, expect, got },
-        Tale::NoRoom { drain: _, size } => Answer::NoRoom { at, size },
+        Tale::NoRoom { size, .. } => Answer::NoRoom { at, size },
     }
 }
 
@@ -106,25 +106,21 @@ fn said(s: State, carry: &mut [u8], chunk: &[u8], skip: usize, v: Verdict) -> St
 {
     let at = s.used + skip;
     match v {
-        Verdict::Wait(k) => {
-            let state = state::drained(s, skip + k);
-            Stepped {
-                answer: Answer::NeedMore,
-                state,
-            }
-        }
-        Verdict::Tell(tale) => {
-            let state = state::drained(s, skip + claim::cost(tale));
-            let answer = tale_at(tale, at);
-            Stepped { answer, state }
-        }
+        Verdict::Wait(k) => Stepped {
+            answer: Answer::NeedMore,
+            state: state::drained(s, skip + k),
+        },
+        Verdict::Tell(tale) => Stepped {
+            answer: tale_at(tale, at),
+            state: state::drained(s, skip + claim::cost(tale)),
+        },
         Verdict::Hand(kind) => {
             let here = state::drained(s, skip + claim::skip(kind));
             let taken = taking::take(here, carry, chunk, claim::size(kind));
-            let place = taken.place;
-            let state = taken.state;
-            let answer = frame_at(kind, at, place);
-            Stepped { answer, state }
+            Stepped {
+                answer: frame_at(kind, at, taken.place),
+                state: taken.state,
+            }
         }
     }
 }
@@ -135,13 +131,8 @@ fn step_well(s: State, carry: &mut [u8], chunk: &[u8]) -> Stepped
     ensures value { result ≡ (step_from s carry.old chunk.now).result }
     ensures carry_after { carry.new ≡ (step_from s carry.old chunk.now).carry }
 {
-    let mode = s.mode;
-    let off = s.off;
-    let live = s.live;
-    let part = s.part;
-    let stop = seek::seek(mode, s.max, s.cap, &carry[off..live], &chunk[part..]);
-    let verdict = stop.verdict;
-    said(s, carry, chunk, stop.skip, verdict)
+    let stop = seek::seek(s.mode, s.max, s.cap, &carry[s.off..s.live], &chunk[s.part..]);
+    said(s, carry, chunk, stop.skip, stop.verdict)
 }
 
 // The next answer of an open state. Refusals 2, 4 and 6.

@@ -46,24 +46,18 @@ fn open_well(s: State, carry: &[u8], chunk: &[u8]) -> State
     requires { Ready (noted s (length chunk.now)) carry.now chunk.now }
     ensures { result ≡ (open_on s carry.now chunk.now (Ok tt)).state }
 {
-    let mode = s.mode;
-    let off = s.off;
-    let live = s.live;
-    let len = chunk.len();
     let next = State {
         used: 0,
         open: true,
-        chunk: len,
+        chunk: chunk.len(),
         part: 0,
         ..s
     };
-    if off < live {
-        if window::is_sync(mode, carry[off]) {
-            return next;
-        }
+    if s.off < s.live && window::is_sync(s.mode, carry[s.off]) {
+        return next;
     }
-    let i = window::find_sync(mode, &carry[off..live], chunk, 0);
-    if i < (live - off) + len {
+    let i = window::find_sync(s.mode, &carry[s.off..s.live], chunk, 0);
+    if i < (s.live - s.off) + chunk.len() {
         return state::drained(next, i);
     }
     next
@@ -91,19 +85,16 @@ pub fn close_well(s: State, carry: &mut [u8], chunk: &[u8]) -> Closed
     ensures value { result ≡ (close_on s carry.old chunk.now (Ok tt)).result }
     ensures carry_after { carry.new ≡ (close_on s carry.old chunk.now (Ok tt)).carry }
 {
-    let mode = s.mode;
-    let from = s.part;
-    let rest = s.chunk - from;
+    let rest = s.chunk - s.part;
     let left = carry::drain(carry, s.live, s.off);
     let n = least(rest, s.cap - left);
-    let kept = carry::extend(carry, left, &chunk[from..], n);
-    let state = state::idle(mode, s.max, s.cap, kept);
+    let kept = carry::extend(carry, left, &chunk[s.part..], n);
     Closed {
         leave: Ok(()),
         used: s.used,
         kept,
         lost: rest - n,
-        state,
+        state: state::idle(s.mode, s.max, s.cap, kept),
     }
 }
 

@@ -39,14 +39,13 @@ pub fn take_grow(s: State, carry: &mut [u8], chunk: &[u8], t: usize) -> Taken
     ensures value { result ≡ (take_grow s carry.old chunk.now t).result }
     ensures carry_after { carry.new ≡ (take_grow s carry.old chunk.now t).carry }
 {
-    let from = s.part;
-    let n = least(s.chunk - from, s.cap - s.live);
-    let live = carry::extend(carry, s.live, &chunk[from..], n);
+    let n = least(s.chunk - s.part, s.cap - s.live);
+    let live = carry::extend(carry, s.live, &chunk[s.part..], n);
     let state = State {
         live,
         off: s.off + t,
         used: s.used + t,
-        part: from + n,
+        part: s.part + n,
         ..s
     };
     let place = Place {
@@ -65,15 +64,14 @@ fn take_shift(s: State, carry: &mut [u8], chunk: &[u8], t: usize) -> Taken
     ensures value { result ≡ (take_shift s carry.old chunk.now t).result }
     ensures carry_after { carry.new ≡ (take_shift s carry.old chunk.now t).carry }
 {
-    let from = s.part;
     let left = carry::drain(carry, s.live, s.off);
     let m = t - left;
-    let live = carry::extend(carry, left, &chunk[from..], m);
+    let live = carry::extend(carry, left, &chunk[s.part..], m);
     let state = State {
         live,
         off: t,
         used: s.used + t,
-        part: from + m,
+        part: s.part + m,
         ..s
     };
     let place = Place {

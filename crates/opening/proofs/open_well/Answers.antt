@@ -18,13 +18,13 @@ pub returns-then-is_sync : goal.returns-then-is_sync
 unfolding pick
 returns-then-is_sync c = let x = c.args in
     let o = noted x.s (length x.chunk.now) in
-    let z = syncs_at_once o x.carry.now x.chunk.now c.requires.sane c.if-off-live.true (sym c.is_sync.ensures ∙ c.if-is_sync.true) in
+    let z = syncs_at_once o x.carry.now x.chunk.now c.requires.sane c.if-s.true (sym c.is_sync.ensures ∙ c.if-is_sync.true) in
     let h : 0 < width o = omega arith in
     rw (z, lt-ltb 0 (width o) h, drain_zero o)
 
-pub returns-then-i-live : goal.returns-then-i-live
+pub returns-then-i-s : goal.returns-then-i-s
 unfolding pick
-returns-then-i-live c = let x = c.args in
+returns-then-i-s c = let x = c.args in
     let o = noted x.s (length x.chunk.now) in
     let i = c.find_sync-i.ensures.value ∙ zero-add _ ∙ ap (λ (l : List ℕ). first_sync x.s.mode (l ++ x.chunk.now)) (left_part x.carry.now x.s.off x.s.live (omega arith)) in
     let h : first_sync x.s.mode (window o x.carry.now x.chunk.now) < width o = rw (← i) (omega arith) in
