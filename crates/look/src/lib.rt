@@ -2,8 +2,7 @@
 // `extract_packet_ubx`, `extract_packet_rtcm`, `extract_packet_nmea`.
 #![tactic(auto)]
 
-ghost use Rattle.std.specs.Prelude.{◌≡◌, true, ◌++◌, ◌+◌, ◌≤◌, ◌<◌, length};
-ghost use Rattle.window.specs.declared.Found.TheVariants.{Nothing};
+ghost use Rattle.std.specs.Prelude.{◌≡◌, true, ◌++◌, ◌+◌, ◌≤◌, ◌<◌, None, length};
 ghost use Rattle.claim.specs.declared.Kind.TheVariants.{Ubx, Rtcm, Sentence};
 ghost use Rattle.claim.specs.Sizes.{around};
 ghost use Rattle.look.specs.declared.Sight.TheVariants.{Say};
@@ -12,7 +11,7 @@ ghost use Rattle.look.specs.Moves.{judge, settled, step_move};
 
 use claim::{Kind, UbxHead, Verdict};
 use sum::Sums;
-use window::{Found, Mode};
+use window::Mode;
 
 const NMEA_MIN_BUFFER_SIZE: usize = 8;
 
@@ -142,7 +141,7 @@ fn sentence_claimed(cap: usize, a: &[u8], b: &[u8], i: usize) -> Verdict
 // No end mark: one byte is drained where a sync byte stands at 1 or later, all where there are more than 82.
 fn no_end(mode: Mode, cap: usize, a: &[u8], b: &[u8]) -> Verdict
     requires { 8 ≤ length a.now + length b.now }
-    ensures { Say result ≡ settled cap (length a.now) (a.now ++ b.now) (end_at mode (a.now ++ b.now) Nothing) }
+    ensures { Say result ≡ settled cap (length a.now) (a.now ++ b.now) (end_at mode (a.now ++ b.now) None) }
 {
     let w = a.len() + b.len();
     if window::find_sync(mode, a, b, 1) < w {
@@ -164,8 +163,8 @@ fn at_nmea(mode: Mode, cap: usize, a: &[u8], b: &[u8]) -> Verdict
     }
     let end = window::find_end(a, b);
     match end {
-        Found::At(i) => sentence_claimed(cap, a, b, i),
-        Found::Nothing => no_end(mode, cap, a, b),
+        Some(i) => sentence_claimed(cap, a, b, i),
+        None => no_end(mode, cap, a, b),
     }
 }
 
