@@ -4,9 +4,6 @@
 #![tactic(auto)]
 
 ghost use Rattle.std.specs.Prelude.{◌≡◌, ◌+◌, ◌*◌, ◌%◌, ◌≤◌, ◌<◌, ◌^◌, ltb};
-ghost use Rattle.sum.specs.Sum.{pair_of};
-ghost use Rattle.claim.specs.declared.Tale.TheVariants.{WrongSum};
-ghost use Rattle.claim.specs.declared.Verdict.TheVariants.{Tell};
 ghost use Rattle.claim.specs.Sizes.{skip, around, size};
 ghost use Rattle.claim.specs.Verdicts.{can_hand, cost, judge_sum, judge_parity, lacks};
 
@@ -23,6 +20,14 @@ pub const RTCM_HEADER_SIZE: usize = 3;
 const RTCM_PARITY_LEN: usize = 3;
 
 pub const NMEA_END_CHARS_LEN: usize = 2;
+
+// What a UBX head says of its frame: class, id, and n, the payload's length.
+#[derive(Clone, Copy)]
+pub struct UbxHead {
+    pub class: u8,
+    pub id: u8,
+    pub n: usize,
+}
 
 // A frame that a head claims: UBX with class, id and n; RTCM with n, and whether it is read with parity; a sentence whose CR
 // stands at i.
@@ -66,13 +71,9 @@ pub fn skip(kind: Kind) -> usize
     ensures { result ≡ skip kind }
 {
     match kind {
-        Kind::Ubx {
-            class: _,
-            id: _,
-            n: _,
-        } => UBX_HEADER_LEN,
-        Kind::Rtcm { n: _, parity: _ } => 0,
-        Kind::Sentence { i: _ } => 0,
+        Kind::Ubx { .. } => UBX_HEADER_LEN,
+        Kind::Rtcm { .. } => 0,
+        Kind::Sentence { .. } => 0,
     }
 }
 
@@ -93,7 +94,7 @@ pub fn size(kind: Kind) -> usize
     ensures { result ≡ size kind }
 {
     match kind {
-        Kind::Ubx { class: _, id: _, n } => n + UBX_CHECKSUM_LEN,
+        Kind::Ubx { n, .. } => n + UBX_CHECKSUM_LEN,
         Kind::Rtcm { n, parity } => n + around(parity),
         Kind::Sentence { i } => i + NMEA_END_CHARS_LEN,
     }
@@ -104,15 +105,9 @@ pub fn cost(tale: Tale) -> usize
     ensures { result ≡ cost tale }
 {
     match tale {
-        Tale::WrongSum {
-            class: _,
-            id: _,
-            n: _,
-            expect: _,
-            got: _,
-        } => UBX_SYNC_SIZE,
-        Tale::WrongParity { expect: _, got: _ } => 1,
-        Tale::NoRoom { drain, size: _ } => drain,
+        Tale::WrongSum { .. } => UBX_SYNC_SIZE,
+        Tale::WrongParity { .. } => 1,
+        Tale::NoRoom { drain, .. } => drain,
     }
 }
 
@@ -121,16 +116,7 @@ pub fn can_hand(cap: usize, u: usize, w: usize, d: usize, t: usize) -> bool
     requires { d + t < 2 ^ 64 }
     ensures { result ≡ can_hand cap u w d t }
 {
-    if w < d + t {
-        return false;
-    }
-    if u <= d {
-        return true;
-    }
-    if t <= u - d {
-        return true;
-    }
-    t <= cap
+    d + t <= w && (u <= d || t <= u - d || t <= cap)
 }
 
 // A frame that can't be handed out: no room where the window is over C, else need more.
@@ -138,58 +124,44 @@ pub fn lacks(cap: usize, w: usize, drain: usize, size: usize) -> Verdict
     ensures { result ≡ lacks (ltb cap w) drain size }
 {
     if cap < w {
-        let tale = Tale::NoRoom { drain, size };
-        return Verdict::Tell(tale);
+        return Verdict::Tell(Tale::NoRoom { drain, size });
     }
     Verdict::Wait(0)
 }
 
-// A wrong sum: class, id and length of the head, the received pair, and the computed one.
-fn wrong_sum(class: u8, id: u8, n: usize, a: u8, b: u8, got: Sums) -> Verdict
-    ensures { result ≡ Tell (WrongSum class id n (pair_of a b) (pair_of got.a got.b)) }
+// What the received pair and the computed one say of the frame that a UBX head claims. A wrong sum is told with class, id and length
+// of the head, the received pair, and the computed one.
+#[tactic(auto, unfolding(window::specs::Pick::pick))]
+pub fn judged(expect: Sums, got: Sums, head: UbxHead) -> Verdict
+    ensures { result ≡ judge_sum expect.a expect.b got head.class head.id head.n }
 {
-    let tale = Tale::WrongSum {
+    let UbxHead { class, id, n } = head;
+    if expect == got {
+        return Verdict::Hand(Kind::Ubx { class, id, n });
+    }
+    Verdict::Tell(Tale::WrongSum {
         class,
         id,
         n,
-        expect: sum::word(a, b),
+        expect: sum::word(expect.a, expect.b),
         got: sum::word(got.a, got.b),
-    };
-    Verdict::Tell(tale)
-}
-
-// What the received pair a, b and the computed one say of a UBX frame.
-pub fn judged(a: u8, b: u8, got: Sums, class: u8, id: u8, n: usize) -> Verdict
-    ensures { result ≡ judge_sum a b got class id n }
-{
-    if a == got.a && b == got.b {
-        let kind = Kind::Ubx { class, id, n };
-        return Verdict::Hand(kind);
-    }
-    wrong_sum(class, id, n, a, b, got)
+    })
 }
 
 // What the received parity and the computed one say of an RTCM frame.
+#[tactic(auto, unfolding(window::specs::Pick::pick))]
 pub fn parity_judged(expect: u32, got: u32, n: usize) -> Verdict
     ensures { result ≡ judge_parity expect got n }
 {
     if expect == got {
-        let kind = Kind::Rtcm { n, parity: true };
-        return Verdict::Hand(kind);
+        return Verdict::Hand(Kind::Rtcm { n, parity: true });
     }
-    let tale = Tale::WrongParity { expect, got };
-    Verdict::Tell(tale)
-}
-
-fn wide(x: u8) -> usize
-    ensures { result ≡ x }
-{
-    x as usize
+    Verdict::Tell(Tale::WrongParity { expect, got })
 }
 
 // An RTCM frame's length: the low 10 bits of its two bytes, big-endian.
 pub fn rtcm_length(high: u8, low: u8) -> usize
     ensures { result ≡ (256 * high + low) % 1024 }
 {
-    (256 * wide(high) + wide(low)) % 1024
+    (256 * usize::from(high) + usize::from(low)) % 1024
 }

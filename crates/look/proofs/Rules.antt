@@ -8,11 +8,11 @@ use lib.ListN.{length, get_or, take, drop, length-append}
 use lib.Seq.{drop-cons}
 use lib.Dec.{ltb}
 use borrow.Author.Tests.{leb-true, lt-ltb, le-ltb, eq-eqb, ne_eqb}
+use Rattle.std.specs.Prelude.{Option, None}
 use Rattle.sum.specs.declared.Sums.{Sums}
 use Rattle.sum.specs.Sum.{sum_of, pair_of}
 use Rattle.parity.specs.Parity.{parity_of, word_of}
 use Rattle.window.specs.declared.Mode.{Mode}
-use Rattle.window.specs.declared.Found.{Found, TheVariants.{Nothing}}
 use Rattle.window.specs.Pick.{pick}
 use Rattle.window.proofs.Pick.{pick_true}
 use Rattle.window.specs.Sync.{is_sync, first_sync}
@@ -119,20 +119,20 @@ module _ (m : Mode) (W : List ℕ) where
   unfolding look_nmea pick
   nmea_short h = rw (lt-ltb _ _ h)
 
-  pub nmea_long : (f : Found) → f ≡ end_mark 0 W → 8 ≤ length W → look_nmea m W ≡ end_at m W f
+  pub nmea_long : (f : Option ℕ) → f ≡ end_mark 0 W → 8 ≤ length W → look_nmea m W ≡ end_at m W f
   unfolding look_nmea pick
   nmea_long f e h = rw (le-ltb _ _ h, ← e)
 
   module _ (r : ℕ) (e : r ≡ 1 + first_sync m (drop 1 W)) where
-    pub end_later : r < length W → end_at m W Nothing ≡ need 1
+    pub end_later : r < length W → end_at m W None ≡ need 1
     unfolding pick
     end_later h = rw (← e, lt-ltb _ _ h)
 
-    pub end_full : length W ≤ r → 82 < length W → end_at m W Nothing ≡ need (length W)
+    pub end_full : length W ≤ r → 82 < length W → end_at m W None ≡ need (length W)
     unfolding pick
     end_full h l = rw (← e, le-ltb _ _ h, lt-ltb _ _ l)
 
-    pub end_keep : length W ≤ r → length W ≤ 82 → end_at m W Nothing ≡ need 0
+    pub end_keep : length W ≤ r → length W ≤ 82 → end_at m W None ≡ need 0
     unfolding pick
     end_keep h l = rw (← e, le-ltb _ _ h, le-ltb _ _ l)
 

@@ -7,8 +7,8 @@ use native.Mathlib.Omega.{arith}
 use lib.ListN.{length}
 use lib.Dec.{ltb, leb}
 use borrow.Author.Tests.{ltb-false, leb-true, lt-ltb}
+use Rattle.std.specs.Prelude.{Option, Some, None}
 use Rattle.window.specs.declared.Mode.{Mode}
-use Rattle.window.specs.declared.Found.{Found, TheVariants.{At, Nothing}}
 use Rattle.window.proofs.Pick.{by_pick}
 use Rattle.window.specs.Sync.{has_parity}
 use Rattle.window.specs.EndMark.{end_mark}
@@ -42,9 +42,9 @@ rtcm_in : (parity : Bool) (W : List ℕ) → In (length W) (look_rtcm parity W)
 unfolding look_rtcm
 rtcm_in parity W = by_pick (In (length W)) (λ _. omega arith) (λ t. let h : 3 ≤ length W = ltb-false (length W) 3 t in omega (arith, around_head parity))
 
-end_in : (mode : Mode) (W : List ℕ) (f : Found) → 8 ≤ length W → In (length W) (end_at mode W f)
-end_in mode W (At i) h = omega arith
-end_in mode W Nothing h = by_pick (In (length W)) (λ _. omega arith) (λ _. by_pick (In (length W)) (λ _. omega arith) (λ _. omega arith))
+end_in : (mode : Mode) (W : List ℕ) (f : Option ℕ) → 8 ≤ length W → In (length W) (end_at mode W f)
+end_in mode W (Some i) h = omega arith
+end_in mode W None h = by_pick (In (length W)) (λ _. omega arith) (λ _. by_pick (In (length W)) (λ _. omega arith) (λ _. omega arith))
 
 pub look_in : (mode : Mode) (max : ℕ) (W : List ℕ) → In (length W) (look mode max W)
 unfolding look look_nmea

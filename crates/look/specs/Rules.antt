@@ -1,8 +1,7 @@
 -- 01, "One step", rules 1 to 4, and 02, Ticket 4: what stands at the front of a window. It goes by the window's bytes alone.
-use Rattle.std.specs.Prelude.{ℕ, ◌+◌, ◌*◌, ◌%◌, Bool, not, List, [], ◌∷◌, length, get_or, drop, ltb, eqb}
+use Rattle.std.specs.Prelude.{ℕ, ◌+◌, ◌*◌, ◌%◌, Bool, not, List, [], ◌∷◌, Option, Some, None, length, get_or, drop, ltb, eqb}
 use Rattle.sum.specs.Sum.{pair_of}
 use Rattle.window.specs.declared.Mode.{Mode}
-use Rattle.window.specs.declared.Found.{Found, TheVariants.{At, Nothing}}
 use Rattle.window.specs.Pick.{pick}
 use Rattle.window.specs.Sync.{has_parity, is_sync, first_sync}
 use Rattle.window.specs.EndMark.{end_mark}
@@ -40,9 +39,9 @@ look_rtcm parity W =
     (claim (Rtcm ((256 * get_or W 1 0 + get_or W 2 0) % 1024) parity))
 
 -- rule 4, at 24, by the end mark found: where there is none, a sync byte at 1 or later drains 1, and over 82 bytes drain all
-abbrev pub end_at : Mode → List ℕ → Found → Look
-end_at mode W (At i) = claim (Sentence i)
-end_at mode W Nothing =
+abbrev pub end_at : Mode → List ℕ → Option ℕ → Look
+end_at mode W (Some i) = claim (Sentence i)
+end_at mode W None =
     pick (ltb (1 + first_sync mode (drop 1 W)) (length W)) (need 1)
     (pick (ltb 82 (length W)) (need (length W))
     (need 0))

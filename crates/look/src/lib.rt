@@ -2,16 +2,16 @@
 // `extract_packet_ubx`, `extract_packet_rtcm`, `extract_packet_nmea`.
 #![tactic(auto)]
 
-ghost use Rattle.std.specs.Prelude.{◌≡◌, true, ◌++◌, ◌+◌, ◌≤◌, ◌<◌, length};
-ghost use Rattle.window.specs.declared.Found.TheVariants.{Nothing};
+ghost use Rattle.std.specs.Prelude.{◌≡◌, true, ◌++◌, ◌+◌, ◌≤◌, ◌<◌, None, length};
 ghost use Rattle.claim.specs.declared.Kind.TheVariants.{Ubx, Rtcm, Sentence};
 ghost use Rattle.claim.specs.Sizes.{around};
 ghost use Rattle.look.specs.declared.Sight.TheVariants.{Say};
 ghost use Rattle.look.specs.Rules.{claim, look_ubx, look_rtcm, look_nmea, end_at};
 ghost use Rattle.look.specs.Moves.{judge, settled, step_move};
 
-use claim::{Kind, Verdict};
-use window::{Found, Mode};
+use claim::{Kind, UbxHead, Verdict};
+use sum::Sums;
+use window::Mode;
 
 const NMEA_MIN_BUFFER_SIZE: usize = 8;
 
@@ -33,25 +33,28 @@ pub enum Sight {
 }
 
 // A whole UBX frame: its sum decides.
-fn ubx_judged(a: &[u8], b: &[u8], class: u8, id: u8, n: usize) -> Verdict
-    requires { n + 8 ≤ length a.now + length b.now }
-    ensures { result ≡ judge (Ubx class id n) (a.now ++ b.now) }
+pub fn ubx_judged(a: &[u8], b: &[u8], head: UbxHead) -> Verdict
+    requires { head.n + 8 ≤ length a.now + length b.now }
+    ensures { result ≡ judge (Ubx head.class head.id head.n) (a.now ++ b.now) }
 {
-    let got = window::sum_of(a, b, claim::UBX_SYNC_SIZE, claim::UBX_HEADER_LEN + n);
-    let ck_a = window::byte_at(a, b, claim::UBX_HEADER_LEN + n);
-    let ck_b = window::byte_at(a, b, claim::UBX_HEADER_LEN + n + 1);
-    claim::judged(ck_a, ck_b, got, class, id, n)
+    let end = claim::UBX_HEADER_LEN + head.n;
+    let got = window::sum_of(a, b, claim::UBX_SYNC_SIZE, end);
+    let expect = Sums {
+        a: window::byte_at(a, b, end),
+        b: window::byte_at(a, b, end + 1),
+    };
+    claim::judged(expect, got, head)
 }
 
 // A UBX head with n at most MAX.
-fn ubx_claimed(cap: usize, a: &[u8], b: &[u8], class: u8, id: u8, n: usize) -> Verdict
-    requires { n < 65536 }
-    ensures { Say result ≡ settled cap (length a.now) (a.now ++ b.now) (claim (Ubx class id n)) }
+fn ubx_claimed(cap: usize, a: &[u8], b: &[u8], head: UbxHead) -> Verdict
+    requires { head.n < 65536 }
+    ensures { Say result ≡ settled cap (length a.now) (a.now ++ b.now) (claim (Ubx head.class head.id head.n)) }
 {
     let w = a.len() + b.len();
-    let size = n + claim::UBX_CHECKSUM_LEN;
+    let size = head.n + claim::UBX_CHECKSUM_LEN;
     if claim::can_hand(cap, a.len(), w, claim::UBX_HEADER_LEN, size) {
-        return ubx_judged(a, b, class, id, n);
+        return ubx_judged(a, b, head);
     }
     claim::lacks(cap, w, claim::UBX_SYNC_SIZE, size)
 }
@@ -74,10 +77,12 @@ fn at_ubx(max: u16, cap: usize, a: &[u8], b: &[u8]) -> Sight
     if max < n {
         return Sight::Pass(Why::OverMax);
     }
-    let class = window::byte_at(a, b, 2);
-    let id = window::byte_at(a, b, 3);
-    let v = ubx_claimed(cap, a, b, class, id, n as usize);
-    Sight::Say(v)
+    let head = UbxHead {
+        class: window::byte_at(a, b, 2),
+        id: window::byte_at(a, b, 3),
+        n: usize::from(n),
+    };
+    Sight::Say(ubx_claimed(cap, a, b, head))
 }
 
 // A whole RTCM frame with its parity: that decides.
@@ -101,8 +106,7 @@ fn rtcm_judged(a: &[u8], b: &[u8], n: usize, parity: bool) -> Verdict
     if parity {
         return parity_checked(a, b, n);
     }
-    let kind = Kind::Rtcm { n, parity: false };
-    Verdict::Hand(kind)
+    Verdict::Hand(Kind::Rtcm { n, parity: false })
 }
 
 // Rule 3, at D3.
@@ -129,8 +133,7 @@ fn sentence_claimed(cap: usize, a: &[u8], b: &[u8], i: usize) -> Verdict
     let w = a.len() + b.len();
     let size = i + claim::NMEA_END_CHARS_LEN;
     if claim::can_hand(cap, a.len(), w, 0, size) {
-        let kind = Kind::Sentence { i };
-        return Verdict::Hand(kind);
+        return Verdict::Hand(Kind::Sentence { i });
     }
     claim::lacks(cap, w, 1, size)
 }
@@ -138,7 +141,7 @@ fn sentence_claimed(cap: usize, a: &[u8], b: &[u8], i: usize) -> Verdict
 // No end mark: one byte is drained where a sync byte stands at 1 or later, all where there are more than 82.
 fn no_end(mode: Mode, cap: usize, a: &[u8], b: &[u8]) -> Verdict
     requires { 8 ≤ length a.now + length b.now }
-    ensures { Say result ≡ settled cap (length a.now) (a.now ++ b.now) (end_at mode (a.now ++ b.now) Nothing) }
+    ensures { Say result ≡ settled cap (length a.now) (a.now ++ b.now) (end_at mode (a.now ++ b.now) None) }
 {
     let w = a.len() + b.len();
     if window::find_sync(mode, a, b, 1) < w {
@@ -160,8 +163,8 @@ fn at_nmea(mode: Mode, cap: usize, a: &[u8], b: &[u8]) -> Verdict
     }
     let end = window::find_end(a, b);
     match end {
-        Found::At(i) => sentence_claimed(cap, a, b, i),
-        Found::Nothing => no_end(mode, cap, a, b),
+        Some(i) => sentence_claimed(cap, a, b, i),
+        None => no_end(mode, cap, a, b),
     }
 }
 
@@ -180,9 +183,7 @@ pub fn look(mode: Mode, max: u16, cap: usize, a: &[u8], b: &[u8]) -> Sight
         return at_ubx(max, cap, a, b);
     }
     if x == window::RTCM_SYNC_CHAR {
-        let v = at_rtcm(window::has_parity(mode), cap, a, b);
-        return Sight::Say(v);
+        return Sight::Say(at_rtcm(window::has_parity(mode), cap, a, b));
     }
-    let v = at_nmea(mode, cap, a, b);
-    Sight::Say(v)
+    Sight::Say(at_nmea(mode, cap, a, b))
 }

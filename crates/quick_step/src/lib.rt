@@ -9,6 +9,7 @@ ghost use Rattle.state.specs.Ready.{Ready};
 ghost use Rattle.framer.specs.Step.{step_from};
 ghost use Rattle.quick_words.specs.Quickly.{Quickly};
 
+use claim::UbxHead;
 use seek::Head;
 use state::State;
 
@@ -33,14 +34,12 @@ fn at_front(
         quick_words::wait(s, words, out);
         return true;
     }
-    let head = seek::head_of(s.max, f);
-    match head {
-        Head::Unsure => false,
-        Head::Past(_) => false,
-        Head::Ubx { class, id, n } => quick_frames::at_ubx(
+    match seek::head_of(s.max, f) {
+        Some(Head::Ubx(UbxHead { class, id, n })) => quick_frames::at_ubx(
             s, words, carry, chunk, out, class, id, n,
         ),
-        Head::Rtcm { n } => quick_frames::at_rtcm(s, words, carry, chunk, out, n),
+        Some(Head::Rtcm { n }) => quick_frames::at_rtcm(s, words, carry, chunk, out, n),
+        Some(Head::Past(_)) | None => false,
     }
 }
 

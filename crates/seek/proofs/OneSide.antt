@@ -9,6 +9,7 @@ use lib.ListN.{length, get_or, take, drop, length-drop, length-append}
 use lib.Seq.{drop-append-le, take-append-le}
 use lib.Dec.{ltb}
 use borrow.Author.Tests.{le-leb, lt-leb, le-ltb, eq-eqb, ne_eqb}
+use Rattle.std.specs.Prelude.{Option, Some, None}
 use Rattle.sum.specs.Sum.{sum_of, pair_of}
 use Rattle.window.specs.declared.Mode.{Mode}
 use Rattle.window.specs.Pick.{pick}
@@ -20,8 +21,7 @@ use Rattle.claim.specs.Sizes.{skip, around, size, back}
 use Rattle.claim.specs.Verdicts.{can_hand, judge_sum, lacks}
 use Rattle.look.specs.declared.Why.TheVariants.{NotPair, OverMax}
 use Rattle.look.specs.declared.Sight.{Sight, TheVariants.{Pass, Say}}
-use Rattle.seek.specs.declared.Hint.{Hint}
-use Rattle.seek.specs.declared.Head.{Head, TheVariants.{Unsure as Untold, Past as HeadPast, Ubx as HeadUbx, Rtcm as HeadRtcm}}
+use Rattle.seek.specs.declared.Head.{Head, TheVariants.{Past, Ubx as HeadUbx, Rtcm as HeadRtcm}}
 use Rattle.look.specs.Rules.{claim, look_ubx, look_rtcm, at_sync}
 use Rattle.look.specs.Moves.{judge, settled, step_move}
 use Rattle.seek.specs.Passed.{move_at}
@@ -57,7 +57,7 @@ beside_first [] b k h = inl refl
 beside_first (x ∷ a) b k h = inr (drop-append-le k (x ∷ a) b h, sym (length-drop k (x ∷ a)))
 
 -- what is told of the slice from k on is told of the window from k on
-pub told_there : (mode : Mode) (max cap : ℕ) (a b s : List ℕ) → s ≡ first_of a b → (k : ℕ) → k ≤ length s → (r : Hint)
+pub told_there : (mode : Mode) (max cap : ℕ) (a b s : List ℕ) → s ≡ first_of a b → (k : ℕ) → k ≤ length s → (r : Option Sight)
     → ((u : ℕ) (W : List ℕ) → Begins (take (length s - k) (drop k s)) W u (length a + length b - k) → Beside (take (length s - k) (drop k s)) b W u → Tells r (step_move mode max cap u W))
     → Tells r (move_at mode max cap (length a) (a ++ b) k)
 told_there mode max cap a b s e k h r f =
@@ -168,13 +168,11 @@ module _ (s W : List ℕ) (u w : ℕ) (h : Begins s W u w) where
     frame_judged m = settles cap (Ubx class id n) (omega arith) ∙ ap Say (sum_here m)
 
     -- it is on both sides, and fits the carry
-    pub frame_both : (b : List ℕ) → Beside s b W u → n + 8 ≤ w → length s < n + 8 → n + 2 ≤ cap → settled cap u W (claim (Ubx class id n))
-        ≡ Say (judge_sum (get_or (s ++ b) (6 + n) 0) (get_or (s ++ b) (6 + n + 1) 0) (sum_of (take (6 + n - 2) (drop 2 (s ++ b)))) class id n)
+    pub frame_both : (b : List ℕ) → Beside s b W u → n + 8 ≤ w → length s < n + 8 → n + 2 ≤ cap
+        → settled cap u W (claim (Ubx class id n)) ≡ Say (judge (Ubx class id n) (s ++ b))
     frame_both b beside m short room =
         let all : s ++ b ≡ W = ⊎_elim (λ e. let z = ap length e in absurd (omega (arith, h.width))) (λ e. sym e.0) beside in
-        rw all
-        (settles_fitting cap (Ubx class id n) (omega arith) (omega arith)
-        ∙ ap Say (judged class id n (get_or W (6 + n) 0) (get_or W (6 + n + 1) 0) (sum_of (take (6 + n - 2) (drop 2 W))) W refl refl refl))
+        rw all (settles_fitting cap (Ubx class id n) (omega arith) (omega arith))
 
   -- ---- rule 3
 
@@ -200,8 +198,8 @@ module _ (f g : ℕ → ℕ → List ℕ → Sight) (s : List ℕ) (e : (cap u w
   claimed_by : (kind : Kind) → Claimed f s kind → Claimed g s kind
   claimed_by kind h = λ cap u w W b. e cap u w W b ∙ h cap u w W b
 
-  pub heads_by : (r : Head) → Heads f s r → Heads g s r
-  heads_by Untold h = tt
-  heads_by (HeadPast y) h = λ cap u w W b. e cap u w W b ∙ h cap u w W b
-  heads_by (HeadUbx class id n) h = (h.0, h.1, claimed_by (Ubx class id n) h.2)
-  heads_by (HeadRtcm n) h = (h.0, h.1, claimed_by (Rtcm n false) h.2)
+  pub heads_by : (r : Option Head) → Heads f s r → Heads g s r
+  heads_by None h = tt
+  heads_by (Some (Past y)) h = λ cap u w W b. e cap u w W b ∙ h cap u w W b
+  heads_by (Some (HeadUbx head)) h = (h.0, h.1, claimed_by (Ubx head.class head.id head.n) h.2)
+  heads_by (Some (HeadRtcm n)) h = (h.0, h.1, claimed_by (Rtcm n false) h.2)

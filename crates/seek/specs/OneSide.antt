@@ -1,12 +1,13 @@
 -- What one side of the window tells of its front: what the inner functions of `seek` are told and answer, and what a head there claims.
-use Rattle.std.specs.Prelude.{◌≡◌, false, ◌⊎◌, ℕ, ◌+◌, ◌≤◌, ◌<◌, List, [], ◌∷◌, ◌++◌, length}
-use Rattle.look.specs.declared.Sight.{Sight, TheVariants.{Pass, Say}}
+use Rattle.std.specs.Prelude.{◌≡◌, false, Option, Some, None, Result, Ok, Err, ◌⊎◌, ℕ, ◌+◌, ◌≤◌, ◌<◌, List, [], ◌∷◌, ◌++◌, length}
+use Rattle.look.specs.declared.Sight.{Sight, TheVariants.{Pass}}
 use Rattle.claim.specs.declared.Kind.{Kind, TheVariants.{Ubx, Rtcm}}
+use Rattle.claim.specs.declared.UbxHead.{UbxHead}
 use Rattle.claim.specs.Sizes.{skip, size}
 use Rattle.look.specs.Rules.{claim}
 use Rattle.look.specs.Moves.{settled}
-use Rattle.seek.specs.declared.Hint.{Hint, TheVariants.{Unsure, Past, Sure}}
-use Rattle.seek.specs.declared.Head.{Head, TheVariants.{Unsure as Untold, Past as HeadPast, Ubx as HeadUbx, Rtcm as HeadRtcm}}
+use Rattle.look.specs.declared.Why.{Why}
+use Rattle.seek.specs.declared.Head.{Head, TheVariants.{Past, Ubx as HeadUbx, Rtcm as HeadRtcm}}
 
 -- the first of two lists, where it has bytes
 abbrev pub first_of : List ℕ → List ℕ → List ℕ
@@ -24,22 +25,26 @@ pub record Begins (s W : List ℕ) (u w : ℕ) : Type 0 where
 abbrev pub Beside : List ℕ → List ℕ → List ℕ → ℕ → Type 0
 Beside s b W u = (W ≡ s) ⊎ ((W ≡ s ++ b) × (u ≡ length s))
 
--- what is told of a move
-abbrev pub Tells : Hint → Sight → Type 0
-Tells Unsure m = Unit {0}
-Tells (Past y) m = m ≡ Pass y
-Tells (Sure v) m = m ≡ Say v
+-- what is told of a move, where one side tells
+abbrev pub Tells : Option Sight → Sight → Type 0
+Tells None m = Unit {0}
+Tells (Some sight) m = m ≡ sight
 
 -- a move, of any window that begins with s, is what becomes of a frame that is claimed
 abbrev pub Claimed : (ℕ → ℕ → List ℕ → Sight) → List ℕ → Kind → Type 0
 Claimed move s kind = (cap u w : ℕ) (W : List ℕ) → Begins s W u w → move cap u W ≡ settled cap u W (claim kind)
 
--- what a head claims that s has
-abbrev pub Heads : (ℕ → ℕ → List ℕ → Sight) → List ℕ → Head → Type 0
-Heads move s Untold = Unit {0}
-Heads move s (HeadPast y) = (cap u w : ℕ) (W : List ℕ) → Begins s W u w → move cap u W ≡ Pass y
-Heads move s (HeadUbx class id n) = (6 ≤ length s) × (n < 65536) × Claimed move s (Ubx class id n)
-Heads move s (HeadRtcm n) = (6 ≤ length s) × (n < 1024) × Claimed move s (Rtcm n false)
+-- what a UBX head tells: the frame that it claims, or why bytes are passed
+abbrev pub told_head : Result UbxHead Why → Head
+told_head (Ok head) = HeadUbx head
+told_head (Err y) = Past y
+
+-- what a head claims that s has, where it tells
+abbrev pub Heads : (ℕ → ℕ → List ℕ → Sight) → List ℕ → Option Head → Type 0
+Heads move s None = Unit {0}
+Heads move s (Some (Past y)) = (cap u w : ℕ) (W : List ℕ) → Begins s W u w → move cap u W ≡ Pass y
+Heads move s (Some (HeadUbx head)) = (6 ≤ length s) × (head.n < 65536) × Claimed move s (Ubx head.class head.id head.n)
+Heads move s (Some (HeadRtcm n)) = (6 ≤ length s) × (n < 1024) × Claimed move s (Rtcm n false)
 
 -- a frame lies on one side of a window, u bytes of which lie in the carry
 abbrev pub OnOneSide : ℕ → Kind → Type 0

@@ -8,9 +8,9 @@ use native.Mathlib.Omega.{arith}
 use lib.ListN.{length, get_or, take, drop, length-append, length-drop, take-append-drop}
 use lib.Seq.{drop-cons, take_at, get_or_at, get_or-append-add, length-take-le}
 use borrow.Author.Tests.{ltb-false, eqb-true, not-false}
+use Rattle.std.specs.Prelude.{Option, Some, None}
 use Rattle.sum.specs.Sum.{sum_of, pair_of}
 use Rattle.window.specs.declared.Mode.{Mode}
-use Rattle.window.specs.declared.Found.{Found, TheVariants.{At, Nothing}}
 use Rattle.window.specs.Pick.{pick}
 use Rattle.window.specs.Sync.{has_parity}
 use Rattle.window.specs.EndMark.{end_mark}
@@ -144,9 +144,9 @@ rtcm_other parity W class id n =
     (λ _ e. let z : ◌≡◌ {A = ℕ} 0 1 = cc in omega arith)
     (λ _ e. let z : ◌≡◌ {A = ℕ} 0 1 = cc in omega arith)
 
-end_other : (mode : Mode) (W : List ℕ) (f : Found) (class id n : ℕ) → end_at mode W f ≡ claim (Ubx class id n) → ⊥
-end_other mode W (At i) class id n = λ e. let z : ◌≡◌ {A = ℕ} 0 1 = cc in omega arith
-end_other mode W Nothing class id n =
+end_other : (mode : Mode) (W : List ℕ) (f : Option ℕ) (class id n : ℕ) → end_at mode W f ≡ claim (Ubx class id n) → ⊥
+end_other mode W (Some i) class id n = λ e. let z : ◌≡◌ {A = ℕ} 0 1 = cc in omega arith
+end_other mode W None class id n =
     let P : Look → Type 0 = λ l. l ≡ claim (Ubx class id n) → ⊥ in
     by_pick P (λ _ e. let z : ◌≡◌ {A = ℕ} 0 1 = cc in omega arith)
     (λ _. by_pick P (λ _ e. let z : ◌≡◌ {A = ℕ} 0 1 = cc in omega arith) (λ _ e. let z : ◌≡◌ {A = ℕ} 0 1 = cc in omega arith))

@@ -8,9 +8,9 @@ use native.Mathlib.Omega.{arith}
 use lib.ListN.{length, get_or, take}
 use lib.Dec.{ltb}
 use borrow.Author.Tests.{leb-true, eqb-true, eqb-false}
+use Rattle.std.specs.Prelude.{Option, Some, None}
 use Rattle.parity.specs.Parity.{parity_of, word_of}
 use Rattle.window.specs.declared.Mode.{Mode}
-use Rattle.window.specs.declared.Found.{Found, TheVariants.{At, Nothing}}
 use Rattle.window.specs.Sync.{has_parity, is_sync}
 use Rattle.window.specs.EndMark.{end_mark}
 use Rattle.window.proofs.Pick.{by_pick}
@@ -81,9 +81,9 @@ module _ (mode : Mode) where
   unfolding look_rtcm
   rtcm_claims W front sync = by_pick (LookClaims W) (λ _. tt) (λ _. record { front = front; counts = refl; setting = refl; reads = rw front at sync })
 
-  nmea_claims : (W : List ℕ) → (HasScan mode → ⊥) → (f : Found) → LookClaims W (end_at mode W f)
-  nmea_claims W h (At i) = h
-  nmea_claims W h Nothing = by_pick (LookClaims W) (λ _. tt) (λ _. by_pick (LookClaims W) (λ _. tt) (λ _. tt))
+  nmea_claims : (W : List ℕ) → (HasScan mode → ⊥) → (f : Option ℕ) → LookClaims W (end_at mode W f)
+  nmea_claims W h (Some i) = h
+  nmea_claims W h None = by_pick (LookClaims W) (λ _. tt) (λ _. by_pick (LookClaims W) (λ _. tt) (λ _. tt))
 
   look_claims : (max : ℕ) (W : List ℕ) → LookClaims W (look mode max W)
   unfolding look look_nmea

@@ -6,8 +6,8 @@ use Prim.Native.Nat.{ℕ, ◌<◌}
 use native.Mathlib.Omega.{arith}
 use lib.ListN.{get_or}
 use borrow.Author.Tests.{eqb-true, not-false}
+use Rattle.std.specs.Prelude.{Option, Some, None}
 use Rattle.window.specs.declared.Mode.{Mode}
-use Rattle.window.specs.declared.Found.{Found, TheVariants.{At, Nothing}}
 use Rattle.window.specs.Sync.{has_parity}
 use Rattle.window.specs.EndMark.{end_mark}
 use Rattle.window.proofs.Pick.{by_pick}
@@ -42,9 +42,9 @@ rtcm_hops : (parity : Bool) (W : List ℕ) → LookHops W (look_rtcm parity W)
 unfolding look_rtcm
 rtcm_hops parity W = by_pick (LookHops W) (λ _. tt) (λ _. tt)
 
-end_hops : (mode : Mode) (W : List ℕ) (f : Found) → LookHops W (end_at mode W f)
-end_hops mode W (At i) = tt
-end_hops mode W Nothing = by_pick (LookHops W) (λ _. tt) (λ _. by_pick (LookHops W) (λ _. tt) (λ _. tt))
+end_hops : (mode : Mode) (W : List ℕ) (f : Option ℕ) → LookHops W (end_at mode W f)
+end_hops mode W (Some i) = tt
+end_hops mode W None = by_pick (LookHops W) (λ _. tt) (λ _. by_pick (LookHops W) (λ _. tt) (λ _. tt))
 
 look_hops : (mode : Mode) (max : ℕ) (W : List ℕ) → LookHops W (look mode max W)
 unfolding look look_nmea

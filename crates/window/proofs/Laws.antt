@@ -8,6 +8,7 @@ use native.Mathlib.Omega.{arith}
 use lib.ListN.{length, get_or, take, drop, length-drop, take-append-drop, drop_of_length-le, get_or-append}
 use lib.Seq.{drop-cons, drop-drop, get_or-drop, get_or-append-add, length-take-le, take_all, drop-append-le, drop-append-add}
 use lib.Dec.{eqb}
+use Rattle.std.specs.Prelude.{Some, None}
 use Rattle.window.specs.Pick.{pick}
 use Rattle.window.proofs.Pick.{by_pick}
 use Rattle.window.specs.Sync.{is_sync, first}
@@ -15,7 +16,6 @@ use Rattle.window.specs.EndMark.{end_mark}
 use Rattle.window.specs.Search.{is, syncs_of, told, any_of}
 use Rattle.window.specs.declared.Mode.{Mode, TheVariants.{One, Two, Three}}
 use Rattle.window.specs.declared.Needle.TheVariants.{UbxRtcm, UbxRtcmNmea}
-use Rattle.window.specs.declared.Found.TheVariants.{At, Nothing}
 
 -- ---- two lists read as one
 
@@ -203,15 +203,15 @@ told_syncs (Three parity) = fun_ext (λ x. or_assoc (eqb x 0xB5) (eqb x 0xD3) (e
 -- ---- the end mark
 
 -- one byte on, and where fewer than two are left
-mark_step : (l : List ℕ) (i : ℕ) → suc i < length l → end_mark i (drop i l) ≡ pick (eqb (get_or l i 0) 0x0D && eqb (get_or l (suc i) 0) 0x0A) (At i) (end_mark (suc i) (drop (suc i) l))
+mark_step : (l : List ℕ) (i : ℕ) → suc i < length l → end_mark i (drop i l) ≡ pick (eqb (get_or l i 0) 0x0D && eqb (get_or l (suc i) 0) 0x0A) (Some i) (end_mark (suc i) (drop (suc i) l))
 unfolding end_mark
 mark_step l i h = let h' : i < length l = omega arith in rw (drop-cons l i 0 h', drop-cons l (suc i) 0 h)
 
-pub mark_end : (l : List ℕ) (i : ℕ) → length l ≤ suc i → end_mark i (drop i l) ≡ Nothing
+pub mark_end : (l : List ℕ) (i : ℕ) → length l ≤ suc i → end_mark i (drop i l) ≡ None
 unfolding end_mark
 mark_end l i h = go (drop i l) (simp length-drop (omega arith))
   where
-    go : (d : List ℕ) → length d ≤ 1 → end_mark i d ≡ Nothing
+    go : (d : List ℕ) → length d ≤ 1 → end_mark i d ≡ None
     go [] k = refl
     go (x ∷ []) k = refl
     go (x ∷ y ∷ d) k = absurd (omega arith)
@@ -242,7 +242,7 @@ module _ (l : List ℕ) (i : ℕ) (h : suc i < length l) where
   unfolding pick
   mark_next e = mark_step l i h ∙ rw (e, and-false)
 
-  pub mark_here : eqb (get_or l i 0) 0x0D ≡ true → eqb (get_or l (suc i) 0) 0x0A ≡ true → end_mark i (drop i l) ≡ At i
+  pub mark_here : eqb (get_or l i 0) 0x0D ≡ true → eqb (get_or l (suc i) 0) 0x0A ≡ true → end_mark i (drop i l) ≡ Some i
   unfolding pick
   mark_here e f = mark_step l i h ∙ rw (e, f)
 
@@ -263,11 +263,11 @@ first_at t l k r e h =
     rw e (rw get_or-drop at (first_is t (drop k l) w))
 
 -- an end mark leaves room for both its bytes
-pub mark_within : (k : ℕ) (l : List ℕ) (i : ℕ) → end_mark k l ≡ At i → i + 2 ≤ k + length l
+pub mark_within : (k : ℕ) (l : List ℕ) (i : ℕ) → end_mark k l ≡ Some i → i + 2 ≤ k + length l
 unfolding end_mark
 mark_within k [] i = λ e. let z : ◌≡◌ {A = ℕ} 0 1 = cc in absurd (omega arith)
 mark_within k (x ∷ []) i = λ e. let z : ◌≡◌ {A = ℕ} 0 1 = cc in absurd (omega arith)
 mark_within k (x ∷ y ∷ l) i =
-    by_pick (λ f. f ≡ At i → i + 2 ≤ k + suc (suc (length l)))
+    by_pick (λ f. f ≡ Some i → i + 2 ≤ k + suc (suc (length l)))
     (λ _ e. let q : k ≡ i = cc in omega arith)
     (λ _ e. omega (arith, mark_within (suc k) (y ∷ l) i e))

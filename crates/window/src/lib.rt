@@ -32,13 +32,6 @@ pub enum Mode {
     Three(bool),
 }
 
-// Where a search found what it looks for.
-#[derive(Clone, Copy)]
-pub enum Found {
-    At(usize),
-    Nothing,
-}
-
 // What a search looks for: the sync bytes of a mode, or CR.
 #[derive(Clone, Copy)]
 enum Needle {
@@ -275,15 +268,15 @@ pub fn parity_of(a: &[u8], b: &[u8], to: usize) -> u32
 }
 
 // The window's first CR that is followed at once by LF.
-pub fn find_end(a: &[u8], b: &[u8]) -> Found
+pub fn find_end(a: &[u8], b: &[u8]) -> Option<usize>
     ensures { result ≡ end_mark 0 (a.now ++ b.now) }
 {
     let w = a.len() + b.len();
-    let mut found = Found::Nothing;
+    let mut found = None;
     let mut i = find(Needle::Cr, a, b, 0);
     while i + 1 < w {
         if byte_at(a, b, i + 1) == NMEA_END_CHAR_2 {
-            found = Found::At(i);
+            found = Some(i);
             break;
         }
         i = find(Needle::Cr, a, b, i + 1);

@@ -4,7 +4,7 @@ use mathlib.Core.List.{◌++◌}
 use Prim.Native.Nat.{◌<◌, ◌≤◌}
 use native.Mathlib.Omega.{arith}
 use lib.ListN.{length, length-append}
-use Rattle.window.specs.declared.Found.TheVariants.{At, Nothing}
+use Rattle.std.specs.Prelude.{Some, None}
 use Rattle.window.proofs.Laws.{mark_within}
 use Rattle.look.proofs.Rules.{nmea_short, nmea_long}
 use Rattle.look.proofs.at_nmea.Goals as goal
@@ -16,16 +16,16 @@ returns-then-w-lt-NMEA_MIN_BUFFER_SIZE c = let x = c.args in
 
 pub sentence_claimed-requires : goal.sentence_claimed-requires
 sentence_claimed-requires c = let x = c.args in
-    omega (arith, simp length-append at (mark_within 0 (x.a.now ++ x.b.now) c.in-At.i (sym c.find_end-end.ensures ∙ c.in-At.is)))
+    omega (arith, simp length-append at (mark_within 0 (x.a.now ++ x.b.now) c.in-Some.i (sym c.find_end-end.ensures ∙ c.in-Some.is)))
 
-pub returns-in-At : goal.returns-in-At
-returns-in-At c = let x = c.args in
+pub returns-in-Some : goal.returns-in-Some
+returns-in-Some c = let x = c.args in
     let W = x.a.now ++ x.b.now in
     let h : 8 ≤ length W = simp length-append (omega arith) in
-    c.sentence_claimed.ensures ∙ rw (nmea_long x.mode W (At c.in-At.i) (sym c.in-At.is ∙ c.find_end-end.ensures) h)
+    c.sentence_claimed.ensures ∙ rw (nmea_long x.mode W (Some c.in-Some.i) (sym c.in-Some.is ∙ c.find_end-end.ensures) h)
 
-pub returns-in-Nothing : goal.returns-in-Nothing
-returns-in-Nothing c = let x = c.args in
+pub returns-in-None : goal.returns-in-None
+returns-in-None c = let x = c.args in
     let W = x.a.now ++ x.b.now in
     let h : 8 ≤ length W = simp length-append (omega arith) in
-    c.no_end.ensures ∙ rw (nmea_long x.mode W Nothing (sym c.in-Nothing.is ∙ c.find_end-end.ensures) h)
+    c.no_end.ensures ∙ rw (nmea_long x.mode W None (sym c.in-None.is ∙ c.find_end-end.ensures) h)

@@ -37,4 +37,4 @@ returns c = let x = c.args in
     let h : 6 ≤ length W = simp length-append (omega arith) in
     let p : get_or W 1 0 ≡ 0x62 = sym c.byte_at.ensures ∙ c.if-byte_at-ne-UBX_SYNC_CHAR_2.false in
     let l = rw (c.word-n.ensures, c.byte_at-3.ensures, c.byte_at-2.ensures) at c.if-max-n.false in
-    c.ubx_claimed-v.ensures ∙ rw (ubx_claims x.max W h p l, c.byte_at-id.ensures, c.byte_at-class.ensures, c.word-n.ensures, c.byte_at-3.ensures, c.byte_at-2.ensures)
+    c.ubx_claimed.ensures ∙ rw (ubx_claims x.max W h p l, c.byte_at-5.ensures, c.byte_at-4.ensures, c.from.ensures, c.word-n.ensures, c.byte_at-3.ensures, c.byte_at-2.ensures)

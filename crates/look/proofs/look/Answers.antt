@@ -33,7 +33,7 @@ unfolding pick
 returns-then-x-2 c = let x = c.args in
     let W = x.a.now ++ x.b.now in
     let h : 0 < length W = simp length-append (omega arith) in
-    c.at_rtcm-v.ensures ∙ rw c.has_parity.ensures (sym (look_sync x.mode x.max x.cap (length x.a.now) W _ c.byte_at-x.ensures h (sym c.is_sync.ensures ∙ c.if-not-is_sync.false)
+    c.at_rtcm.ensures ∙ rw c.has_parity.ensures (sym (look_sync x.mode x.max x.cap (length x.a.now) W _ c.byte_at-x.ensures h (sym c.is_sync.ensures ∙ c.if-not-is_sync.false)
     ∙ rw (ne_eqb _ _ c.if-x.false, eq-eqb _ _ c.if-x-2.true)))
 
 pub returns : goal.returns
@@ -41,5 +41,5 @@ unfolding pick
 returns c = let x = c.args in
     let W = x.a.now ++ x.b.now in
     let h : 0 < length W = simp length-append (omega arith) in
-    c.at_nmea-v.ensures ∙ sym (look_sync x.mode x.max x.cap (length x.a.now) W _ c.byte_at-x.ensures h (sym c.is_sync.ensures ∙ c.if-not-is_sync.false)
+    c.at_nmea.ensures ∙ sym (look_sync x.mode x.max x.cap (length x.a.now) W _ c.byte_at-x.ensures h (sym c.is_sync.ensures ∙ c.if-not-is_sync.false)
     ∙ rw (ne_eqb _ _ c.if-x.false, ne_eqb _ _ c.if-x-2.false))

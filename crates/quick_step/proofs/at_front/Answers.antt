@@ -16,7 +16,7 @@ at_ubx-requires c = let start = c in
     let first = c.first_of-f.ensures in
     let b = first_begins x.s x.carry.now x.chunk.now r _ first in
     let sync = first_sync x.s x.carry.now x.chunk.now r _ first c.if-f-eq0.false p.fact in
-    let h = rw c.in-Ubx.is at (c.head_of-head.ensures x.s.mode sync p.mode_value) in
+    let h = rw (c.in-Some-Ubx.is, c.in-Some-Ubx.field-0-is) at (c.head_of.ensures x.s.mode sync p.mode_value) in
     record { ready = r; chunk_value = h.2 x.s.cap _ _ _ b; n_bound = h.1 }
 
 pub at_rtcm-requires : goal.at_rtcm-requires
@@ -25,5 +25,5 @@ at_rtcm-requires c = let start = c in
     let first = c.first_of-f.ensures in
     let b = first_begins x.s x.carry.now x.chunk.now r _ first in
     let sync = first_sync x.s x.carry.now x.chunk.now r _ first c.if-f-eq0.false p.fact in
-    let h = rw c.in-Rtcm.is at (c.head_of-head.ensures x.s.mode sync p.mode_value) in
+    let h = rw (c.in-Some-Rtcm.is, c.in-Some-Rtcm.field-0-is) at (c.head_of.ensures x.s.mode sync p.mode_value) in
     record { ready = r; chunk_value = h.2 x.s.cap _ _ _ b; n_bound = h.1 }
