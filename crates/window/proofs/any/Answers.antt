@@ -1,7 +1,8 @@
 -- `window::any` meets its contract: each byte that is looked for is looked for by itself.
 use mathlib.Core.Path.{◌≡◌, sym, ◌∙◌}
 use mathlib.Core.Bool.{◌||◌}
-use Rattle.window.specs.Search.{is, any_of}
+use Rattle.std.specs.List.{list_any}
+use Rattle.window.specs.Search.{is}
 use Rattle.window.proofs.Laws.{any_two, any_three}
 use Rattle.window.proofs.any.Goals as goal
 use Rattle.window.proofs.any.Goals.{then-has-2, else-has-2}
@@ -20,13 +21,13 @@ returns-else-has c = let s = c.args.s.now in
 -- of three, the first two
 pub returns-then-has-3 : goal.returns-then-has-3
 returns-then-has-3 c = let s = c.args.s.now in
-    let two : c.if-has-2.value ≡ (any_of (is 0xB5) s || any_of (is 0xD3) s) =
+    let two : c.if-has-2.value ≡ (list_any (is 0xB5) s || list_any (is 0xD3) s) =
     elim c.if-has-2.branch [ then-has-2 w ↦ w.value-is ∙ rw (← c.has-in-UbxRtcmNmea.ensures, w.if-has-2.true) | else-has-2 w ↦ w.value-is ∙ w.has-else-has-2.ensures ∙ rw (← c.has-in-UbxRtcmNmea.ensures, w.if-has-2.false) ] in
     sym (rw (c.in-UbxRtcmNmea.is, any_three s, ← two, c.if-has-3.true))
 
 pub returns-else-has-3 : goal.returns-else-has-3
 returns-else-has-3 c = let s = c.args.s.now in
-    let two : c.if-has-2.value ≡ (any_of (is 0xB5) s || any_of (is 0xD3) s) =
+    let two : c.if-has-2.value ≡ (list_any (is 0xB5) s || list_any (is 0xD3) s) =
     elim c.if-has-2.branch [ then-has-2 w ↦ w.value-is ∙ rw (← c.has-in-UbxRtcmNmea.ensures, w.if-has-2.true) | else-has-2 w ↦ w.value-is ∙ w.has-else-has-2.ensures ∙ rw (← c.has-in-UbxRtcmNmea.ensures, w.if-has-2.false) ] in
     c.has-else-has-3.ensures ∙ sym (rw (c.in-UbxRtcmNmea.is, any_three s, ← two, c.if-has-3.false))
 

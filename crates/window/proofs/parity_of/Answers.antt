@@ -14,5 +14,5 @@ parity_two a b to = rw (sub-zero, sub-zero, on_start, of_append) (ap parity_of (
 
 pub returns : goal.returns
 returns c = let x = c.args in
-    c.update.ensures ∙ rw (c.update-first.ensures, c.new.ensures, c.least-t.ensures)
+    c.update.ensures ∙ rw (c.update-first.ensures, c.new.ensures, c.min-t.ensures)
     (parity_two x.a.now x.b.now x.to)
