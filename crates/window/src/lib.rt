@@ -33,7 +33,8 @@ pub enum Mode {
     Three(bool),
 }
 
-// What a search looks for: the sync bytes of a mode, or CR.
+// What a search looks for: the sync bytes of a mode, or CR. It is no closure: against one that tests two or three bytes, a block's
+// bytes are compared one by one, with ten times the instructions. A trait of this, with a type for each, says no less.
 #[derive(Clone, Copy)]
 enum Needle {
     Ubx,
@@ -71,6 +72,7 @@ pub fn is_sync(mode: Mode, x: u8) -> bool
 }
 
 // The window's byte at i.
+#[tactic(auto, using(crate::proofs::Laws::joined_left, crate::proofs::Laws::joined_right))]
 pub fn byte_at(a: &[u8], b: &[u8], i: usize) -> u8
     requires { i < length a.now + length b.now }
     ensures { result ≡ get_or (a.now ++ b.now) i 0 }
@@ -78,7 +80,7 @@ pub fn byte_at(a: &[u8], b: &[u8], i: usize) -> u8
     if i < a.len() { a[i] } else { b[i - a.len()] }
 }
 
-// Whether x is among the bytes: no way out on the way, so that many are compared at a time.
+// Whether x is among the bytes: no way out on the way, so that many are compared at a time. `contains` takes twice the instructions.
 fn has(s: &[u8], x: u8) -> bool
     ensures { result ≡ list_any (is x) s.now }
 {
@@ -113,6 +115,7 @@ fn tells(needle: Needle, x: u8) -> bool
 }
 
 // Whether a byte that is looked for is among the bytes.
+#[tactic(auto, using(crate::proofs::Laws::any_two, crate::proofs::Laws::any_three))]
 fn any(needle: Needle, s: &[u8]) -> bool
     ensures { result ≡ list_any (told needle) s.now }
 {
@@ -142,7 +145,7 @@ fn past_64(needle: Needle, s: &[u8]) -> usize
 }
 
 // From `from` on past blocks of 16 bytes that have none of what is looked for, up to the end of s: the last block ends there and
-// may overlap the one before it, so that no byte is left behind the blocks.
+// may overlap the one before it, so that no byte is left behind the blocks. `chunks_exact` has no such block.
 fn past_16(needle: Needle, s: &[u8], from: usize) -> usize
     requires { (from ≤ length s.now) × (16 ≤ length s.now) }
     ensures { PastNone (told needle) s.now from result }
@@ -251,9 +254,9 @@ pub fn parity_of(a: &[u8], b: &[u8], to: usize) -> u32
     ensures { result ≡ parity_of (take to (a.now ++ b.now)) }
 {
     let t = to.min(a.len());
-    let first = parity::update(parity::new(), &a[0..t]);
+    let first = parity::update(parity::new(), &a[..t]);
     let end = to - t;
-    parity::update(first, &b[0..end])
+    parity::update(first, &b[..end])
 }
 
 // The window's first CR that is followed at once by LF.
@@ -261,14 +264,14 @@ pub fn find_end(a: &[u8], b: &[u8]) -> Option<usize>
     ensures { result ≡ end_mark 0 (a.now ++ b.now) }
 {
     let w = a.len() + b.len();
-    let mut found = None;
     let mut i = find(Needle::Cr, a, b, 0);
-    while i + 1 < w {
+    loop {
+        if w <= i + 1 {
+            break None;
+        }
         if byte_at(a, b, i + 1) == NMEA_END_CHAR_2 {
-            found = Some(i);
-            break;
+            break Some(i);
         }
         i = find(Needle::Cr, a, b, i + 1);
     }
-    found
 }
