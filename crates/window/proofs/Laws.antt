@@ -5,15 +5,19 @@ use mathlib.Core.List.{List, [], ◌∷◌, ◌++◌}
 use Prim.Native.Nat.{ℕ, zero, suc, ◌+◌, ◌-◌, ◌≤◌, ◌<◌, min}
 use native.Mathlib.Nat.{add-zero, add-sub_of_le, sub-zero, suc-sub-suc, zero-min, min-zero, suc-min-suc}
 use native.Mathlib.Omega.{arith}
-use lib.ListN.{length, get_or, take, drop, length-drop, take-append-drop, drop_of_length-le, get_or-append}
+use lib.ListN.{length, get_or, take, drop, length-drop, length-append, take-append-drop, drop_of_length-le, get_or-append}
 use lib.Seq.{drop-cons, drop-drop, get_or-drop, get_or-append-add, length-take-le, take_all, drop-append-le, drop-append-add}
 use lib.Dec.{eqb}
-use Rattle.std.specs.Prelude.{Some, None}
+use Rattle.std.proofs.Common.{◌⊎◌, inl, inr, cond, not, nat_lt, position, Option, Some, None, MatchOption}
+use Rattle.std.proofs.lemmas.Bool.{cases_lt}
+use Rattle.std.proofs.Math.Seq.{drop-append_seam}
+use Rattle.std.specs.List.{list_any, position_or_len}
+use borrow.Author.Tests.{ltb-false}
 use Rattle.window.specs.Pick.{pick}
 use Rattle.window.proofs.Pick.{by_pick}
 use Rattle.window.specs.Sync.{is_sync, first}
 use Rattle.window.specs.EndMark.{end_mark}
-use Rattle.window.specs.Search.{is, syncs_of, told, any_of}
+use Rattle.window.specs.Search.{is, syncs_of, told, PastNone, StopsBy}
 use Rattle.window.specs.declared.Mode.{Mode, TheVariants.{One, Two, Three}}
 use Rattle.window.specs.declared.Needle.TheVariants.{UbxRtcm, UbxRtcmNmea}
 
@@ -104,37 +108,29 @@ module _ (t : ℕ → Bool) where
       go true ih k = absurd (omega arith)
       go false ih k = let e : first t (a ++ b) ≡ length a + first t b = ih (omega arith) in omega arith
 
-  -- ---- whether it is there at all: the loop's next byte, and past its last
-
-  pub any_next : (n : Bool) (l : List ℕ) (i : ℕ) → i < length l → (n || any_of t (drop i l)) ≡ ((n || t (get_or l i 0)) || any_of t (drop (suc i) l))
-  unfolding any_of
-  any_next n l i h = rw (drop-cons l i 0 h) (or_in n (t (get_or l i 0)) (any_of t (drop (suc i) l)))
-    where
-      or_in : (n u r : Bool) → (n || (u || r)) ≡ ((n || u) || r)
-      or_in true u r = refl
-      or_in false u r = refl
-
-  pub any_end : (n : Bool) (l : List ℕ) (i : ℕ) → length l ≤ i → (n || any_of t (drop i l)) ≡ n
-  unfolding any_of
-  any_end n l i h = rw (drop_of_length-le l h, or-false)
-
   -- where it is not, the first is past the end
-  none_in : (l : List ℕ) → any_of t l ≡ false → length l ≤ first t l
-  unfolding first any_of pick
+  none_in : (l : List ℕ) → list_any t l ≡ false → length l ≤ first t l
+  unfolding first pick
   none_in [] e = omega arith
   none_in (x ∷ l) e = go (t x) (none_in l) e
     where
-      go : (u : Bool) → (any_of t l ≡ false → length l ≤ first t l) → (u || any_of t l) ≡ false → suc (length l) ≤ pick u 0 (suc (first t l))
+      go : (u : Bool) → (list_any t l ≡ false → length l ≤ first t l) → (u || list_any t l) ≡ false → suc (length l) ≤ pick u 0 (suc (first t l))
       go true ih k = absurd (true≢false k)
       go false ih k = omega (arith, ih k)
 
   -- a block with none is passed
-  pub first_past : (l : List ℕ) (i n : ℕ) → i + n ≤ length l → any_of t (take n (drop i l)) ≡ false → first t (drop i l) ≡ n + first t (drop (i + n) l)
+  pub first_block : (l b d : List ℕ) (i n : ℕ) → drop i l ≡ b ++ d → length b ≡ n → list_any t b ≡ false
+      → (n ≤ length l - i) × (d ≡ drop (i + n) l) × (first t (drop i l) ≡ n + first t (drop (i + n) l))
+  first_block l b d i n s k e =
+      let on : d ≡ drop (i + n) l = sym (drop-append_seam b d) ∙ rw (k, ← s, drop-drop) in
+      let room : length l - i ≡ length b + length d = sym (length-drop i l) ∙ ap (λ (z : List ℕ). length z) s ∙ length-append b d in
+      (omega (arith, room, k), on, ap (λ (z : List ℕ). first t z) s ∙ first_right b d (none_in b e) ∙ rw (k, on))
+
+  pub first_past : (l : List ℕ) (i n : ℕ) → i + n ≤ length l → list_any t (take n (drop i l)) ≡ false → first t (drop i l) ≡ n + first t (drop (i + n) l)
   first_past l i n h e =
       let d = drop i l in
       let k : length (take n d) ≡ n = length-take-le n d (simp length-drop (omega arith)) in
-      let f = first_right (take n d) (drop n d) (none_in (take n d) e) in
-      ap (λ (z : List ℕ). first t z) (sym (take-append-drop n d)) ∙ f ∙ rw (k, drop-drop)
+      (first_block l (take n d) (drop n d) i n (sym (take-append-drop n d)) k e).2
 
   -- and so from a place within it on
   first_skip : (l : List ℕ) (n : ℕ) → n ≤ first t l → first t l ≡ n + first t (drop n l)
@@ -148,13 +144,79 @@ module _ (t : ℕ → Bool) where
       go true ih k = absurd (omega arith)
       go false ih k = omega (arith, ih (omega arith))
 
-  pub first_within : (l : List ℕ) (j i n : ℕ) → j ≤ i → i ≤ j + n → j + n ≤ length l → any_of t (take n (drop j l)) ≡ false
+  pub first_within : (l : List ℕ) (j i n : ℕ) → j ≤ i → i ≤ j + n → j + n ≤ length l → list_any t (take n (drop j l)) ≡ false
       → i + first t (drop i l) ≡ j + n + first t (drop (j + n) l)
   first_within l j i n p q h e =
       let f = first_past l j n h e in
       let s = first_skip (drop j l) (i - j) (omega arith) in
       let d : drop (i - j) (drop j l) ≡ drop i l = drop-drop (i - j) j l ∙ ap (λ (k : ℕ). drop k l) (add-sub_of_le p) in
       omega (arith, rw d at s)
+
+  -- ---- bytes looked at one by one, up to the first or to n
+
+  -- the first, in std's words
+  first_position : (l : List ℕ) → position_or_len t l ≡ first t l
+  unfolding first pick
+  first_position [] = refl
+  first_position (x ∷ l) = go (t x) (first_position l)
+    where
+      go : (u : Bool) → position_or_len t l ≡ first t l → cond (not u) (1 + position_or_len t l) 0 ≡ pick u 0 (suc (first t l))
+      go true e = refl
+      go false e = omega (arith, e)
+
+  position_first : (l : List ℕ) → MatchOption (position t l) (first t l ≡ length l) (λ i. first t l ≡ i)
+  position_first l = go (nat_lt (position_or_len t l) (length l)) refl
+    where
+      go : (u : Bool) → nat_lt (position_or_len t l) (length l) ≡ u → MatchOption (cond u (Some (position_or_len t l)) None) (first t l ≡ length l) (λ i. first t l ≡ i)
+      go true e = sym (first_position l)
+      go false e = omega (arith, ltb-false _ _ e, first_position l, first_le l)
+
+  stops_by : (l : List ℕ) (i n f : ℕ) → i ≤ n → n ≤ length l → first t (take (n - i) (drop i l)) ≡ f → StopsBy t l i n (i + f)
+  stops_by l i n f h m e = go (cases_lt (first t b) (length b))
+    where
+      b : List ℕ
+      b = take (n - i) (drop i l)
+
+      d : List ℕ
+      d = drop (n - i) (drop i l)
+
+      all : drop i l ≡ b ++ d
+      all = sym (take-append-drop (n - i) (drop i l))
+
+      long : length b ≡ n - i
+      long = length-take-le (n - i) (drop i l) (simp length-drop (omega arith))
+
+      go : (first t b < length b) ⊎ (length b ≤ first t b) → StopsBy t l i n (i + f)
+      go (inl s) =
+          let one : first t (drop i l) ≡ f = ap (λ (z : List ℕ). first t z) all ∙ first_left b d s ∙ e in
+          let skip = rw drop-drop at (first_skip (drop i l) f (omega (arith, one))) in
+          record {
+            past = record { low = omega arith; high = omega (arith, long, e); same = omega (arith, skip) };
+            within = omega (arith, long, e);
+            there = inr (omega (arith, one, skip));
+          }
+      go (inr s) =
+          let ends : f ≡ n - i = omega (arith, long, e, first_le b) in
+          let right : first t (drop i l) ≡ n - i + first t (drop (i + (n - i)) l) = ap (λ (z : List ℕ). first t z) all ∙ first_right b d s ∙ rw (long, drop-drop) in
+          record {
+            past = record { low = omega arith; high = omega (arith, ends); same = rw ends (omega (arith, right)) };
+            within = omega (arith, ends);
+            there = inl (omega (arith, ends));
+          }
+
+  pub position_stops : (l : List ℕ) (i n : ℕ) (o : Option ℕ) → i ≤ n → n ≤ length l → o ≡ position t (take (n - i) (drop i l))
+      → MatchOption o (StopsBy t l i n n) (λ f. StopsBy t l i n (i + f))
+  position_stops l i n o h m e = rw e (go (position t (take (n - i) (drop i l))) (position_first (take (n - i) (drop i l))))
+    where
+      b : List ℕ
+      b = take (n - i) (drop i l)
+
+      go : (o : Option ℕ) → MatchOption o (first t b ≡ length b) (λ f. first t b ≡ f) → MatchOption o (StopsBy t l i n n) (λ f. StopsBy t l i n (i + f))
+      go None f =
+          let long : length b ≡ n - i = length-take-le (n - i) (drop i l) (simp length-drop (omega arith)) in
+          let ends : i + (n - i) ≡ n = omega arith in
+          rw ends at (stops_by l i n (n - i) h m (f ∙ long))
+      go (Some k) f = stops_by l i n k h m f
 
 -- from k on: what is found in a part, and in two lists read as one
 module _ (t : ℕ → Bool) where
@@ -176,10 +238,9 @@ module _ (t : ℕ → Bool) where
     found_right h = rw (← drop_right a b k h)
 
 -- of two tests
-pub any_or : (p q : ℕ → Bool) (l : List ℕ) → any_of (λ (x : ℕ). p x || q x) l ≡ (any_of p l || any_of q l)
-unfolding any_of
+pub any_or : (p q : ℕ → Bool) (l : List ℕ) → list_any (λ (x : ℕ). p x || q x) l ≡ (list_any p l || list_any q l)
 any_or p q [] = refl
-any_or p q (x ∷ l) = rw (any_or p q l) (or_swap (p x) (q x) (any_of p l) (any_of q l))
+any_or p q (x ∷ l) = rw (any_or p q l) (or_swap (p x) (q x) (list_any p l) (list_any q l))
   where
     or_swap : (a b c d : Bool) → ((a || b) || (c || d)) ≡ ((a || c) || (b || d))
     or_swap true b c d = refl
@@ -188,10 +249,10 @@ any_or p q (x ∷ l) = rw (any_or p q l) (or_swap (p x) (q x) (any_of p l) (any_
     or_swap false false c d = refl
 
 -- of the sync bytes of modes two and three, each by itself
-pub any_two : (l : List ℕ) → any_of (told UbxRtcm) l ≡ (any_of (is 0xB5) l || any_of (is 0xD3) l)
+pub any_two : (l : List ℕ) → list_any (told UbxRtcm) l ≡ (list_any (is 0xB5) l || list_any (is 0xD3) l)
 any_two l = any_or (is 0xB5) (is 0xD3) l
 
-pub any_three : (l : List ℕ) → any_of (told UbxRtcmNmea) l ≡ (any_of (is 0xB5) l || any_of (is 0xD3) l || any_of (is 0x24) l)
+pub any_three : (l : List ℕ) → list_any (told UbxRtcmNmea) l ≡ (list_any (is 0xB5) l || list_any (is 0xD3) l || list_any (is 0x24) l)
 any_three l = any_or (told UbxRtcm) (is 0x24) l ∙ rw (any_two l)
 
 -- a search for a mode's sync bytes is for those of 01
