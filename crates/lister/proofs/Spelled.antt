@@ -1,5 +1,5 @@
 -- What a teller says of a chunk, spelled for the listing: the lines are those of the answers.
-use Rattle.std.proofs.Common.{◌≡◌, ℕ, false, List, refl, ◌∙◌}
+use Rattle.std.proofs.Common.{◌≡◌, ℕ, false, List, refl}
 use Rattle.teller.specs.declared.Run.{Run}
 use Rattle.teller.specs.Words.{Point}
 use Rattle.teller.specs.Telling.{Lines as Told, no_line as none_told, next_line as next_told, Filled as Whole, is_whole as whole_told, Through}

@@ -1,5 +1,5 @@
 -- An answer with a line uses up a byte or more, so a listing gets on.
-use Rattle.std.proofs.Common.{◌≡◌, ℕ, suc, ◌+◌, ◌<◌, ◌≤◌, Bool, true, false, not, ◌||◌, ltb, List, [], length, sym, refl, true≢false, arith, le-ltb, lt-ltb}
+use Rattle.std.proofs.Common.{◌≡◌, ℕ, suc, ◌+◌, ◌<◌, Bool, true, false, not, ◌||◌, ltb, List, [], length, sym, refl, true≢false, arith, le-ltb, lt-ltb}
 use Rattle.window.specs.declared.Mode.{Mode}
 use Rattle.state.specs.declared.State.{State}
 use Rattle.state.specs.Words.{width}

@@ -1,7 +1,5 @@
 -- What a teller says of a chunk, spelled for the stamps: the steps end where the chunk does.
-use Rattle.std.proofs.Common.{◌≡◌, ℕ, false, List, ap, ◌∙◌}
-use Rattle.stamp.specs.declared.Clock.{Clock}
-use Rattle.stamp_lines.specs.declared.Tally.{Tally}
+use Rattle.std.proofs.Common.{ℕ, false, List, ap}
 use Rattle.teller.specs.declared.Run.{Run}
 use Rattle.teller.specs.Words.{Point as Place}
 use Rattle.teller.specs.Telling.{Lines, no_line, next_line, Filled, is_whole, Through as Told}

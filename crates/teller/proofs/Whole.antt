@@ -1,5 +1,5 @@
 -- The turns of `answers`: the lines of one filled buffer after the other are those of the chunk.
-use Rattle.std.proofs.Common.{◌≡◌, ℕ, ◌+◌, ◌-◌, ◌<◌, ◌≤◌, min, Bool, true, false, List, [], ◌∷◌, ◌++◌, length, sym, refl, ap, ◌∙◌, true≢false, append_assoc, append-nil, arith}
+use Rattle.std.proofs.Common.{◌≡◌, ℕ, ◌+◌, ◌-◌, ◌<◌, ◌≤◌, min, Bool, true, false, List, [], ◌∷◌, ◌++◌, length, refl, ap, ◌∙◌, append_assoc, append-nil, arith}
 use Rattle.state.specs.declared.State.{State}
 use Rattle.teller.specs.declared.Run.{Run}
 use Rattle.teller.specs.Words.{Point, Words, Uses, GetsOn}
