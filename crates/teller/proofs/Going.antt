@@ -17,15 +17,14 @@ pub record Going {M : Type 0} (w : Words M) (l : Run M) (carry chunk out : List 
 with_carry : {M : Type 0} → Point M → List ℕ → Point M
 with_carry p carry = record { by = p.by; state = p.state; carry = carry }
 
-module _ {M : Type 0} {w : Words M} (l : Run M) (carry chunk out : List ℕ) (h : l.waiting ≤ length out) where
-  pub going_starts : Going w l carry chunk out l carry out
-  going_starts = record { text = []; lines = no_line; puts = nothing out l.waiting; run = refl; within = h }
+pub going_starts : {M : Type 0} {w : Words M} {l : Run M} {carry chunk out : List ℕ} → l.waiting ≤ length out → Going w l carry chunk out l carry out
+going_starts {l = l} {out = out} h = record { text = []; lines = no_line; puts = nothing out l.waiting; run = refl; within = h }
 
-module _ {M : Type 0} {w : Words M} (on : GetsOn w) (longest : ℕ) (l : Run M) (carry chunk out : List ℕ) (h : l.waiting ≤ length out) (now : Run M) (c o : List ℕ) (g : Going w l carry chunk out now c o) where
-  pub going_full : length out < now.waiting + longest → Fills w longest l carry chunk out true now c o
+module _ {M : Type 0} {w : Words M} {l : Run M} {carry chunk out : List ℕ} {now : Run M} {c o : List ℕ} (g : Going w l carry chunk out now c o) where
+  pub going_full : {longest : ℕ} → length out < now.waiting + longest → Fills w longest l carry chunk out true now c o
   going_full f = record { text = g.text; says = is_full g.lines; puts = g.puts; run = g.run; within = g.within; full = λ _. f }
 
-  module _ (more : Bool) (r : Run M) (c' o' : List ℕ) (t : Tells w now c chunk o more r c' o') (same : length o' ≡ length out) where
+  module _ (on : GetsOn w) (h : l.waiting ≤ length out) {more : Bool} {r : Run M} {c' o' : List ℕ} (t : Tells w now c chunk o more r c' o') (same : length o' ≡ length out) where
     here : point_of r c' ≡ w.after chunk (point_of now c)
     unfolding with_carry
     here = ap (λ (x : Run M). point_of x c') t.run ∙ ap (with_carry (w.after chunk (point_of now c))) t.carries
@@ -53,7 +52,7 @@ module _ {M : Type 0} {w : Words M} (on : GetsOn w) (longest : ℕ) (l : Run M) 
       within = within;
     }
 
-    pub going_ends : more ≡ false → Fills w longest l carry chunk out false r c' o'
+    pub going_ends : {longest : ℕ} → more ≡ false → Fills w longest l carry chunk out false r c' o'
     going_ends m =
         let e = sym t.goes ∙ m in
         record {

@@ -52,11 +52,10 @@ pub record Flowing {M : Type 0} (w : Words M) (l : Run M) (carry chunk out : Lis
   pub lost : next.lost ≡ l.lost
   pub within : next.waiting ≤ length out
 
-module _ {M : Type 0} {w : Words M} (l : Run M) (carry chunk out : List ℕ) where
-  pub flowing_starts : l.waiting ≤ length out → Flowing w l carry chunk out l carry
-  flowing_starts h = record { text = []; lines = no_line; used = refl; kept = refl; lost = refl; within = h }
+pub flowing_starts : {M : Type 0} {w : Words M} {l : Run M} {carry chunk out : List ℕ} → l.waiting ≤ length out → Flowing w l carry chunk out l carry
+flowing_starts h = record { text = []; lines = no_line; used = refl; kept = refl; lost = refl; within = h }
 
-module _ {M : Type 0} {w : Words M} (on : GetsOn w) {longest : ℕ} (l : Run M) (carry chunk out : List ℕ) (next : Run M) (c o : List ℕ) (g : Flowing w l carry chunk out next c) (same : length o ≡ length out) (more : Bool) (f : Run M) (c' o' : List ℕ) (fills : Fills w longest next c chunk o more f c' o') where
+module _ {M : Type 0} {w : Words M} {longest : ℕ} {l : Run M} {carry chunk out : List ℕ} {next : Run M} {c o : List ℕ} (g : Flowing w l carry chunk out next c) (same : length o ≡ length out) {more : Bool} {f : Run M} {c' o' : List ℕ} (fills : Fills w longest next c chunk o more f c' o') where
   used : f.used ≡ l.used
   used = ap (λ (x : Run M). x.used) fills.run ∙ g.used
 
@@ -79,7 +78,7 @@ module _ {M : Type 0} {w : Words M} (on : GetsOn w) {longest : ℕ} (l : Run M) 
     within = omega (arith, fills.within, same);
   }
 
-  module _ (full : more ≡ true) (n : Run M) (e : n ≡ flushed f n.up) where
+  module _ (full : more ≡ true) {n : Run M} (e : n ≡ flushed f n.up) where
     pub flowing_on : Flowing w l carry chunk out n c'
     flowing_on = record {
       text = g.text ++ fills.text;
@@ -90,7 +89,7 @@ module _ {M : Type 0} {w : Words M} (on : GetsOn w) {longest : ℕ} (l : Run M) 
       within = rw e (omega arith);
     }
 
-    pub flowing_less : longest ≤ length o → left n < left next
-    flowing_less room =
+    pub flowing_less : GetsOn w → longest ≤ length o → left n < left next
+    flowing_less on room =
         rw e
         (less next.state f.state next.waiting fills.text (gets on (full_lines (says true full))) (omega (arith, fills.full full, fills.puts.place)))
