@@ -5,7 +5,6 @@ ghost use Rattle.std.specs.Prelude.{◌≤◌, length};
 ghost use Rattle.lister.specs.Listing.{listing, Lists};
 ghost use Rattle.lister.specs.Laws.{listing_gets_on};
 
-use lines::LONGEST;
 use std::io::Read;
 use teller::{Run, Teller};
 use window::Mode;
@@ -21,7 +20,7 @@ impl Teller for Listing {
 
     ghost LONGEST = { 84 };
 
-    const LONGEST: usize = LONGEST;
+    const LONGEST: usize = lines::LONGEST;
 
     fn first(out: &mut [u8], mode: Mode, max: u16, cap: usize) -> usize {
         ends::header(out, 0, mode, max, cap)
