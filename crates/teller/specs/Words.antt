@@ -9,7 +9,8 @@ pub record Point (M : Type 0) : Type 0 where
   pub state : State
   pub carry : List ℕ
 
--- `before` is what earlier closes reported as used
+-- the first line, for a mode, MAX and C; what a step with a chunk makes, its line, where earlier closes reported `before` bytes as
+-- used, and whether there may be more; and the last line. Where there is no line, it is no bytes
 pub record Words (M : Type 0) : Type 0 where
   pub first : Mode → (max cap : ℕ) → List ℕ
   pub after : (chunk : List ℕ) → Point M → Point M

@@ -34,7 +34,7 @@ pub trait Teller: Copy {
     // The longest line.
     const LONGEST: usize;
 
-    // The first line, put to the front: the place behind it. It names the mode, MAX and C.
+    // The first line, if there is one, put to the front: the place behind it. It may say mode, MAX and C.
     fn first(out: &mut [u8], mode: Mode, max: u16, cap: usize) -> usize
         requires { LONGEST ≤ length out.old }
         ensures { Puts (words.first mode max cap) out.old 0 out.new result };
