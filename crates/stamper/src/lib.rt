@@ -6,7 +6,6 @@ ghost use Rattle.std.specs.Prelude.{◌≡◌, ◌+◌, ◌≤◌, length};
 ghost use Rattle.stamper.specs.Stamping.{flushed, counted, Makes, Tells, Steps, Through};
 
 use opening::Closed;
-use stamp::Clock;
 use stamp_lines::Tally;
 use state::State;
 use std::io::Read;
@@ -20,7 +19,7 @@ const LONGEST: usize = 218;
 #[derive(Clone, Copy)]
 pub struct Stamping {
     pub state: State,
-    pub clock: Clock,
+    pub clock: Option<u64>,
     pub tally: Tally,
     pub used: u64,
     pub kept: u64,
@@ -203,17 +202,10 @@ pub fn stamps(
 {
     let opened = opening::start(carry, mode, max);
     let state = opened.state;
-    let tally = Tally {
-        stamps: 0,
-        back: 0,
-        refused: 0,
-        other: 0,
-        sums: 0,
-    };
     let mut now = Stamping {
         state,
-        clock: Clock::Unset,
-        tally,
+        clock: None,
+        tally: Tally::default(),
         used: 0,
         kept: 0,
         lost: 0,
