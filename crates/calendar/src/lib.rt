@@ -68,6 +68,7 @@ pub fn seconds_at(days: u64, hour: u64, minute: u64, second: u64) -> u64
     ((days * 24 + hour) * 60 + minute) * 60 + second
 }
 
+// Both ends belong to a range. It stays a function: seven ranges here and in `stamp` read by one name what `contains` says of each.
 #[tactic(auto, unfolding(crate::specs::Ranges::within))]
 pub fn within(low: u64, high: u64, x: u64) -> bool
     ensures { result ≡ within low high x }

@@ -19,7 +19,7 @@ const ID: u8 = 0x21;
 const LENGTH: usize = 20;
 
 // A second in nanoseconds; a payload's nanoseconds lie within it either way.
-const SECOND: u64 = 1000000000;
+const SECOND: u64 = 1_000_000_000;
 
 // The three refusals, in their order.
 #[derive(Clone, Copy)]
@@ -148,6 +148,7 @@ fn hand(clock: Option<u64>, t: u64) -> Heard
 }
 
 // A payload's stamp, or 02's refusals in their order: what any clock reads of it.
+#[tactic(auto, using(crate::proofs::Outcomes::read_other, crate::proofs::Outcomes::read_invalid, crate::proofs::Outcomes::read_outside, crate::proofs::Outcomes::read_hands, crate::proofs::Ranges::this_length))]
 fn stamp_in(class: u8, id: u8, payload: &[u8]) -> Result<u64, Fault>
     ensures { (clock : Option ℕ) → read clock class id payload.now ≡ heard_of clock result }
 {
