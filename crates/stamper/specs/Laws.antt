@@ -1,9 +1,10 @@
 -- Steps with a chunk get on, and end in one way only.
-use Rattle.std.proofs.Common.{◌≡◌, ℕ, true, false, List, [], sym, refl, ◌∙◌, true≢false}
+use Rattle.std.proofs.Common.{◌≡◌, ℕ, true, false, List, [], Option, Result, sym, refl, ◌∙◌, true≢false}
 use Rattle.framer.specs.declared.Answer.{Answer, TheVariants.{UbxFrame, RtcmFrame, Sentence, WrongSum, NoRoom, NeedMore, Refused, WrongParity}}
 use Rattle.lister.specs.Listing.{has_line}
 use Rattle.lister.specs.Laws.{line_uses}
-use Rattle.stamp.specs.declared.Told.{Told}
+use Rattle.stamp.specs.declared.Fault.{Fault}
+use Rattle.stamp.specs.declared.Reading.{Reading}
 use Rattle.stamp.specs.Step.{step}
 use Rattle.stamp_lines.specs.declared.Note.{Note, TheVariants.{Time, Other, Sum, Passed, End}}
 use Rattle.stamp_lines.specs.Notes.{noted, goes_on}
@@ -11,7 +12,7 @@ use Rattle.stamp_lines.specs.Lines.{line}
 use Rattle.teller.specs.Words.{Uses, GetsOn}
 use Rattle.stamper.specs.Stamping.{Point, timed, note_at, after, Ends, stops, goes, point_at, stamping}
 
-said_something : (a : Answer) (told : Told) → goes_on (noted a told) ≡ true → has_line a ≡ true
+said_something : (a : Answer) (told : Option (Result Reading Fault)) → goes_on (noted a told) ≡ true → has_line a ≡ true
 said_something (UbxFrame class id p place) told e = refl
 said_something (RtcmFrame p place) told e = refl
 said_something (Sentence p place) told e = refl

@@ -1,8 +1,7 @@
 -- What `stamps` makes of a chunk: each step's frame noted and counted, after those before it, until need more.
-use Rattle.std.specs.Prelude.{◌≡◌, ℕ, ◌+◌, ◌%◌, ◌^◌, ◌≤◌, true, false, List, [], length}
+use Rattle.std.specs.Prelude.{◌≡◌, ℕ, ◌+◌, ◌%◌, ◌^◌, ◌≤◌, true, false, List, [], length, Option}
 use Rattle.state.specs.declared.State.{State}
 use Rattle.opening.specs.Operations.{opening, closing}
-use Rattle.stamp.specs.declared.Clock.{Clock}
 use Rattle.stamp.specs.Step.{TimedOut, step}
 use Rattle.stamp_lines.specs.declared.Note.{Note}
 use Rattle.stamp_lines.specs.declared.Tally.{Tally}
@@ -17,7 +16,7 @@ use Rattle.stamper.specs.declared.Stamping.{Stamping}
 -- what steps change
 pub record Point : Type 0 where
   pub state : State
-  pub clock : Clock
+  pub clock : Option ℕ
   pub tally : Tally
   pub carry : List ℕ
 

@@ -6,7 +6,6 @@ ghost use Rattle.std.specs.Prelude.{◌≤◌, length};
 ghost use Rattle.stamper.specs.Stamping.{stamping, Through};
 ghost use Rattle.stamper.specs.Laws.{stamping_gets_on};
 
-use stamp::Clock;
 use stamp_lines::Tally;
 use std::io::Read;
 use teller::{Run, Teller};
@@ -15,7 +14,7 @@ use window::Mode;
 // What the stamps have beside: the last stamp, and what was counted.
 #[derive(Clone, Copy)]
 pub struct Stamping {
-    pub clock: Clock,
+    pub clock: Option<u64>,
     pub tally: Tally,
 }
 
@@ -78,14 +77,8 @@ pub fn stamps(
     requires { 218 ≤ length out.old }
 {
     let by = Stamping {
-        clock: Clock::Unset,
-        tally: Tally {
-            stamps: 0,
-            back: 0,
-            refused: 0,
-            other: 0,
-            sums: 0,
-        },
+        clock: None,
+        tally: Tally::default(),
     };
     teller::tell(rt, input, name, mode, max, by, carry, chunk, out);
 }
