@@ -78,7 +78,7 @@ fn is_bad(w: Writer, room: usize) -> bool
     room != w.room || LONGEST < w.len || w.room < w.len + AROUND || w.len < w.written
 }
 
-// A piece of n bytes: refusal 3, then 4. The piece goes to `at`, and the payload ends at `end`.
+// A piece of n bytes: refusal 3, then 4, where less than that is left of the payload.
 #[tactic(auto, using(crate::proofs::Granted::sound_of), unfolding(crate::specs::Refusals::may_add, window::specs::Pick::pick))]
 pub fn may_add(w: Writer, room: usize, n: usize) -> Result<(), Refusal>
     ensures { result ≡ may_add w room n }
@@ -86,9 +86,7 @@ pub fn may_add(w: Writer, room: usize, n: usize) -> Result<(), Refusal>
     if is_bad(w, room) {
         return Err(Refusal::BadState);
     }
-    let at = w.written + HEAD;
-    let end = w.len + HEAD;
-    if end - at < n {
+    if w.len - w.written < n {
         return Err(Refusal::PieceTooLong);
     }
     Ok(())
