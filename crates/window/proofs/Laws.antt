@@ -17,7 +17,7 @@ use Rattle.window.specs.Pick.{pick}
 use Rattle.window.proofs.Pick.{by_pick}
 use Rattle.window.specs.Sync.{is_sync, first}
 use Rattle.window.specs.EndMark.{end_mark}
-use Rattle.window.specs.Search.{is, syncs_of, told, PastNone, StopsBy}
+use Rattle.window.specs.Search.{is, syncs_of, told, StopsBy}
 use Rattle.window.specs.declared.Mode.{Mode, TheVariants.{One, Two, Three}}
 use Rattle.window.specs.declared.Needle.TheVariants.{UbxRtcm, UbxRtcmNmea}
 
@@ -73,10 +73,6 @@ module _ (t : ℕ → Bool) where
     pub first_here : i < length l → t (get_or l i 0) ≡ true → first t (drop i l) ≡ 0
     unfolding first pick
     first_here h e = rw (drop-cons l i 0 h, e)
-
-    pub first_next : i < length l → t (get_or l i 0) ≡ false → first t (drop i l) ≡ suc (first t (drop (suc i) l))
-    unfolding first pick
-    first_next h e = rw (drop-cons l i 0 h, e)
 
     pub first_end : length l ≤ i → first t (drop i l) ≡ 0
     unfolding first
@@ -237,8 +233,11 @@ module _ (t : ℕ → Bool) where
     pub found_right : length a ≤ k → first t (drop k (a ++ b)) ≡ first t (drop (k - length a) b)
     found_right h = rw (← drop_right a b k h)
 
+-- what is found lies in the first list, in the second, or in neither
+pub ruleset in_two = (first_le, first_part, found_left, found_over, found_right)
+
 -- of two tests
-pub any_or : (p q : ℕ → Bool) (l : List ℕ) → list_any (λ (x : ℕ). p x || q x) l ≡ (list_any p l || list_any q l)
+any_or : (p q : ℕ → Bool) (l : List ℕ) → list_any (λ (x : ℕ). p x || q x) l ≡ (list_any p l || list_any q l)
 any_or p q [] = refl
 any_or p q (x ∷ l) = rw (any_or p q l) (or_swap (p x) (q x) (list_any p l) (list_any q l))
   where

@@ -67,7 +67,7 @@ pub fn is_sync(mode: Mode, x: u8) -> bool
         || match mode {
             Mode::One(_) => false,
             Mode::Two(_) => x == RTCM_SYNC_CHAR,
-            Mode::Three(_) => x == RTCM_SYNC_CHAR || x == NMEA_SYNC_CHAR,
+            Mode::Three(_) => matches!(x, RTCM_SYNC_CHAR | NMEA_SYNC_CHAR),
         }
 }
 
@@ -108,8 +108,8 @@ fn tells(needle: Needle, x: u8) -> bool
 {
     match needle {
         Needle::Ubx => x == UBX_SYNC_CHAR_1,
-        Needle::UbxRtcm => x == UBX_SYNC_CHAR_1 || x == RTCM_SYNC_CHAR,
-        Needle::UbxRtcmNmea => x == UBX_SYNC_CHAR_1 || x == RTCM_SYNC_CHAR || x == NMEA_SYNC_CHAR,
+        Needle::UbxRtcm => matches!(x, UBX_SYNC_CHAR_1 | RTCM_SYNC_CHAR),
+        Needle::UbxRtcmNmea => matches!(x, UBX_SYNC_CHAR_1 | RTCM_SYNC_CHAR | NMEA_SYNC_CHAR),
         Needle::Cr => x == NMEA_END_CHAR_1,
     }
 }
@@ -177,6 +177,7 @@ fn past_bytes(needle: Needle, s: &[u8], from: usize, to: usize) -> usize
 // The place of the first byte of s that is looked for, or its length. Few bytes are looked at one by one. Of more, the blocks that have
 // none are passed; in the first block five bytes are looked at by themselves, since what is looked for is often near: behind the three
 // bytes of a parity, or the four that are left of a false head.
+#[tactic(auto, using(crate::proofs::Laws::first_end))]
 fn find_in(needle: Needle, s: &[u8]) -> usize
     ensures { result ≡ first (told needle) s.now }
 {
@@ -199,6 +200,7 @@ fn find_in(needle: Needle, s: &[u8]) -> usize
 }
 
 // The place of the window's first byte from k on that is looked for, or the window's length where there is none.
+#[tactic(auto, using(crate::proofs::Laws::in_two))]
 fn find(needle: Needle, a: &[u8], b: &[u8], k: usize) -> usize
     requires { k ≤ length a.now + length b.now }
     ensures value { result ≡ k + first (told needle) (drop k (a.now ++ b.now)) }
@@ -217,6 +219,7 @@ fn find(needle: Needle, a: &[u8], b: &[u8], k: usize) -> usize
 }
 
 // The place of the window's first sync byte from k on, or the window's length where there is none.
+#[tactic(auto, using(crate::proofs::Laws::told_syncs))]
 pub fn find_sync(mode: Mode, a: &[u8], b: &[u8], k: usize) -> usize
     requires { k ≤ length a.now + length b.now }
     ensures value { result ≡ k + first_sync mode (drop k (a.now ++ b.now)) }
@@ -226,6 +229,7 @@ pub fn find_sync(mode: Mode, a: &[u8], b: &[u8], k: usize) -> usize
 }
 
 // The place of the first sync byte of s, or its length where there is none.
+#[tactic(auto, using(crate::proofs::Laws::told_syncs, crate::proofs::Laws::first_le))]
 pub fn sync_in(mode: Mode, s: &[u8]) -> usize
     ensures value { result ≡ first_sync mode s.now }
     ensures upper_bound { result ≤ length s.now }
