@@ -182,7 +182,7 @@ fn look_at(mode: Mode, max: u16, cap: usize, a: &[u8], b: &[u8], k: usize) -> Si
     if let Some(sight) = glance_at(mode, max, cap, a, b, k) {
         return sight;
     }
-    let i = window::least(k, a.len());
+    let i = k.min(a.len());
     let j = k - i;
     look::look(mode, max, cap, &a[i..], &b[j..])
 }

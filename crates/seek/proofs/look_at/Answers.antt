@@ -10,4 +10,4 @@ pub returns : goal.returns
 returns c = let x = c.args in
     let a = x.a.now in let b = x.b.now in let i = min x.k (length a) in
     let n : length a - i ≡ length a - x.k = omega arith in
-    rw (c.least-i.ensures, from a i, from b (x.k - i), drop_two x.k a b, length-drop, n) at c.look.ensures
+    rw (c.min-i.ensures, from a i, from b (x.k - i), drop_two x.k a b, length-drop, n) at c.look.ensures
