@@ -34,7 +34,7 @@ pub enum Mode {
 }
 
 // What a search looks for: the sync bytes of a mode, or CR. It is no closure: against one that tests two or three bytes, a block's
-// bytes are compared one by one, with ten times the instructions. A trait of this, with a type for each, says no less.
+// bytes are compared one by one, which takes ten times the instructions. A trait, with a type for each, is no plainer.
 #[derive(Clone, Copy)]
 enum Needle {
     Ubx,
@@ -130,7 +130,7 @@ fn any(needle: Needle, s: &[u8]) -> bool
 }
 
 // Past whole blocks of 64 bytes, from the start, that have none of what is looked for. The size is written out, here and below, so
-// that a block's bytes are compared many at a time. One function for both sizes costs each search 3 to 6 instructions more.
+// that a block's bytes are compared many at a time. One function for both sizes, with N, takes some 5 instructions more a search.
 fn past_64(needle: Needle, s: &[u8]) -> usize
     ensures { PastNone (told needle) s.now 0 result }
 {
@@ -163,15 +163,18 @@ fn past_16(needle: Needle, s: &[u8], from: usize) -> usize
     i
 }
 
-// From `from` on past bytes that are not looked for, byte by byte, up to `to`.
+// From `from` on past bytes that are not looked for, byte by byte, up to `to`. `position` takes up to 5 instructions more.
+#[tactic(auto, using(crate::proofs::Laws::first_here))]
 fn past_bytes(needle: Needle, s: &[u8], from: usize, to: usize) -> usize
     requires { (from ≤ to) × (to ≤ length s.now) }
     ensures { StopsBy (told needle) s.now from to result }
 {
-    match s[from..to].iter().position(|x| tells(needle, *x)) {
-        Some(i) => from + i,
-        None => to,
+    for i in from..to {
+        if tells(needle, s[i]) {
+            return i;
+        }
     }
+    to
 }
 
 // The place of the first byte of s that is looked for, or its length. Few bytes are looked at one by one. Of more, the blocks that have
