@@ -5,15 +5,17 @@ use mathlib.Core.List.{List, [], ◌∷◌, ◌++◌}
 use Prim.Native.Nat.{ℕ, zero, suc, ◌+◌, ◌-◌, ◌≤◌, ◌<◌, min}
 use native.Mathlib.Nat.{add-zero, add-sub_of_le, sub-zero, suc-sub-suc, zero-min, min-zero, suc-min-suc}
 use native.Mathlib.Omega.{arith}
-use lib.ListN.{length, get_or, take, drop, length-drop, take-append-drop, drop_of_length-le, get_or-append}
+use lib.ListN.{length, get_or, take, drop, length-drop, length-append, take-append-drop, drop_of_length-le, get_or-append}
 use lib.Seq.{drop-cons, drop-drop, get_or-drop, get_or-append-add, length-take-le, take_all, drop-append-le, drop-append-add}
 use lib.Dec.{eqb}
-use Rattle.std.specs.Prelude.{Some, None}
+use Rattle.std.proofs.Common.{Some, None}
+use Rattle.std.proofs.Math.Seq.{drop-append_seam}
+use Rattle.std.specs.List.{list_any}
 use Rattle.window.specs.Pick.{pick}
 use Rattle.window.proofs.Pick.{by_pick}
 use Rattle.window.specs.Sync.{is_sync, first}
 use Rattle.window.specs.EndMark.{end_mark}
-use Rattle.window.specs.Search.{is, syncs_of, told, any_of}
+use Rattle.window.specs.Search.{is, syncs_of, told}
 use Rattle.window.specs.declared.Mode.{Mode, TheVariants.{One, Two, Three}}
 use Rattle.window.specs.declared.Needle.TheVariants.{UbxRtcm, UbxRtcmNmea}
 
@@ -104,37 +106,29 @@ module _ (t : ℕ → Bool) where
       go true ih k = absurd (omega arith)
       go false ih k = let e : first t (a ++ b) ≡ length a + first t b = ih (omega arith) in omega arith
 
-  -- ---- whether it is there at all: the loop's next byte, and past its last
-
-  pub any_next : (n : Bool) (l : List ℕ) (i : ℕ) → i < length l → (n || any_of t (drop i l)) ≡ ((n || t (get_or l i 0)) || any_of t (drop (suc i) l))
-  unfolding any_of
-  any_next n l i h = rw (drop-cons l i 0 h) (or_in n (t (get_or l i 0)) (any_of t (drop (suc i) l)))
-    where
-      or_in : (n u r : Bool) → (n || (u || r)) ≡ ((n || u) || r)
-      or_in true u r = refl
-      or_in false u r = refl
-
-  pub any_end : (n : Bool) (l : List ℕ) (i : ℕ) → length l ≤ i → (n || any_of t (drop i l)) ≡ n
-  unfolding any_of
-  any_end n l i h = rw (drop_of_length-le l h, or-false)
-
   -- where it is not, the first is past the end
-  none_in : (l : List ℕ) → any_of t l ≡ false → length l ≤ first t l
-  unfolding first any_of pick
+  none_in : (l : List ℕ) → list_any t l ≡ false → length l ≤ first t l
+  unfolding first pick
   none_in [] e = omega arith
   none_in (x ∷ l) e = go (t x) (none_in l) e
     where
-      go : (u : Bool) → (any_of t l ≡ false → length l ≤ first t l) → (u || any_of t l) ≡ false → suc (length l) ≤ pick u 0 (suc (first t l))
+      go : (u : Bool) → (list_any t l ≡ false → length l ≤ first t l) → (u || list_any t l) ≡ false → suc (length l) ≤ pick u 0 (suc (first t l))
       go true ih k = absurd (true≢false k)
       go false ih k = omega (arith, ih k)
 
   -- a block with none is passed
-  pub first_past : (l : List ℕ) (i n : ℕ) → i + n ≤ length l → any_of t (take n (drop i l)) ≡ false → first t (drop i l) ≡ n + first t (drop (i + n) l)
+  pub first_block : (l b d : List ℕ) (i n : ℕ) → drop i l ≡ b ++ d → length b ≡ n → list_any t b ≡ false
+      → (n ≤ length l - i) × (d ≡ drop (i + n) l) × (first t (drop i l) ≡ n + first t (drop (i + n) l))
+  first_block l b d i n s k e =
+      let on : d ≡ drop (i + n) l = sym (drop-append_seam b d) ∙ rw (k, ← s, drop-drop) in
+      let room : length l - i ≡ length b + length d = sym (length-drop i l) ∙ ap (λ (z : List ℕ). length z) s ∙ length-append b d in
+      (omega (arith, room, k), on, ap (λ (z : List ℕ). first t z) s ∙ first_right b d (none_in b e) ∙ rw (k, on))
+
+  pub first_past : (l : List ℕ) (i n : ℕ) → i + n ≤ length l → list_any t (take n (drop i l)) ≡ false → first t (drop i l) ≡ n + first t (drop (i + n) l)
   first_past l i n h e =
       let d = drop i l in
       let k : length (take n d) ≡ n = length-take-le n d (simp length-drop (omega arith)) in
-      let f = first_right (take n d) (drop n d) (none_in (take n d) e) in
-      ap (λ (z : List ℕ). first t z) (sym (take-append-drop n d)) ∙ f ∙ rw (k, drop-drop)
+      (first_block l (take n d) (drop n d) i n (sym (take-append-drop n d)) k e).2
 
   -- and so from a place within it on
   first_skip : (l : List ℕ) (n : ℕ) → n ≤ first t l → first t l ≡ n + first t (drop n l)
@@ -148,7 +142,7 @@ module _ (t : ℕ → Bool) where
       go true ih k = absurd (omega arith)
       go false ih k = omega (arith, ih (omega arith))
 
-  pub first_within : (l : List ℕ) (j i n : ℕ) → j ≤ i → i ≤ j + n → j + n ≤ length l → any_of t (take n (drop j l)) ≡ false
+  pub first_within : (l : List ℕ) (j i n : ℕ) → j ≤ i → i ≤ j + n → j + n ≤ length l → list_any t (take n (drop j l)) ≡ false
       → i + first t (drop i l) ≡ j + n + first t (drop (j + n) l)
   first_within l j i n p q h e =
       let f = first_past l j n h e in
@@ -175,11 +169,13 @@ module _ (t : ℕ → Bool) where
     pub found_right : length a ≤ k → first t (drop k (a ++ b)) ≡ first t (drop (k - length a) b)
     found_right h = rw (← drop_right a b k h)
 
+-- what is found lies in the first list, in the second, or in neither
+pub ruleset in_two = (first_le, first_part, found_left, found_over, found_right)
+
 -- of two tests
-pub any_or : (p q : ℕ → Bool) (l : List ℕ) → any_of (λ (x : ℕ). p x || q x) l ≡ (any_of p l || any_of q l)
-unfolding any_of
+any_or : (p q : ℕ → Bool) (l : List ℕ) → list_any (λ (x : ℕ). p x || q x) l ≡ (list_any p l || list_any q l)
 any_or p q [] = refl
-any_or p q (x ∷ l) = rw (any_or p q l) (or_swap (p x) (q x) (any_of p l) (any_of q l))
+any_or p q (x ∷ l) = rw (any_or p q l) (or_swap (p x) (q x) (list_any p l) (list_any q l))
   where
     or_swap : (a b c d : Bool) → ((a || b) || (c || d)) ≡ ((a || c) || (b || d))
     or_swap true b c d = refl
@@ -188,10 +184,10 @@ any_or p q (x ∷ l) = rw (any_or p q l) (or_swap (p x) (q x) (any_of p l) (any_
     or_swap false false c d = refl
 
 -- of the sync bytes of modes two and three, each by itself
-pub any_two : (l : List ℕ) → any_of (told UbxRtcm) l ≡ (any_of (is 0xB5) l || any_of (is 0xD3) l)
+pub any_two : (l : List ℕ) → list_any (told UbxRtcm) l ≡ (list_any (is 0xB5) l || list_any (is 0xD3) l)
 any_two l = any_or (is 0xB5) (is 0xD3) l
 
-pub any_three : (l : List ℕ) → any_of (told UbxRtcmNmea) l ≡ (any_of (is 0xB5) l || any_of (is 0xD3) l || any_of (is 0x24) l)
+pub any_three : (l : List ℕ) → list_any (told UbxRtcmNmea) l ≡ (list_any (is 0xB5) l || list_any (is 0xD3) l || list_any (is 0x24) l)
 any_three l = any_or (told UbxRtcm) (is 0x24) l ∙ rw (any_two l)
 
 -- a search for a mode's sync bytes is for those of 01

@@ -1,5 +1,5 @@
 -- What the searches' inner functions answer.
-use Rattle.std.specs.Prelude.{◌≡◌, ◌⊎◌, ℕ, ◌+◌, ◌≤◌, Bool, false, ◌||◌, List, [], ◌∷◌, length, drop, eqb}
+use Rattle.std.specs.Prelude.{◌≡◌, ◌⊎◌, ℕ, ◌+◌, ◌≤◌, Bool, ◌||◌, List, length, drop, eqb}
 use Rattle.window.specs.Sync.{first}
 use Rattle.window.specs.declared.Mode.{Mode, TheVariants.{One, Two, Three}}
 use Rattle.window.specs.declared.Needle.{Needle, TheVariants.{Ubx, UbxRtcm, UbxRtcmNmea, Cr}}
@@ -20,11 +20,6 @@ told Ubx x = eqb x 0xB5
 told UbxRtcm x = eqb x 0xB5 || eqb x 0xD3
 told UbxRtcmNmea x = eqb x 0xB5 || eqb x 0xD3 || eqb x 0x24
 told Cr x = eqb x 0x0D
-
--- whether a byte that t tells is in a list
-unfoldable pub any_of : (ℕ → Bool) → List ℕ → Bool
-any_of t [] = false
-any_of t (x ∷ xs) = t x || any_of t xs
 
 -- from i on to r no byte is told
 pub record PastNone (t : ℕ → Bool) (xs : List ℕ) (i r : ℕ) : Type 0 where

@@ -3,11 +3,12 @@
 #![tactic(auto)]
 
 ghost use Rattle.std.specs.Prelude.{◌≡◌, ◌++◌, ◌+◌, ◌-◌, ◌≤◌, ◌<◌, min, length, get_or, take, drop};
+ghost use Rattle.std.specs.List.{list_any};
 ghost use Rattle.sum.specs.Sum.{sum_of};
 ghost use Rattle.parity.specs.Parity.{parity_of};
 ghost use Rattle.window.specs.Sync.{has_parity, is_sync, first_sync, first};
 ghost use Rattle.window.specs.EndMark.{end_mark};
-ghost use Rattle.window.specs.Search.{is, syncs_of, any_of, told, PastNone, StopsBy};
+ghost use Rattle.window.specs.Search.{is, syncs_of, told, PastNone, StopsBy};
 
 use sum::Sums;
 
@@ -32,7 +33,8 @@ pub enum Mode {
     Three(bool),
 }
 
-// What a search looks for: the sync bytes of a mode, or CR.
+// What a search looks for: the sync bytes of a mode, or CR. It is no closure: against one that tests two or three bytes, a block's
+// bytes are compared one by one, which takes ten times the instructions. A trait, with a type for each, is no plainer.
 #[derive(Clone, Copy)]
 enum Needle {
     Ubx,
@@ -46,9 +48,7 @@ pub fn has_parity(mode: Mode) -> bool
     ensures { result ≡ has_parity mode }
 {
     match mode {
-        Mode::One(parity) => parity,
-        Mode::Two(parity) => parity,
-        Mode::Three(parity) => parity,
+        Mode::One(parity) | Mode::Two(parity) | Mode::Three(parity) => parity,
     }
 }
 
@@ -56,24 +56,23 @@ pub fn has_parity(mode: Mode) -> bool
 pub fn least(x: usize, y: usize) -> usize
     ensures { result ≡ min x y }
 {
-    if x < y { x } else { y }
+    x.min(y)
 }
 
 // Whether a byte is a sync byte of the mode.
 pub fn is_sync(mode: Mode, x: u8) -> bool
     ensures { result ≡ is_sync mode x }
 {
-    if x == UBX_SYNC_CHAR_1 {
-        return true;
-    }
-    match mode {
-        Mode::One(_) => false,
-        Mode::Two(_) => x == RTCM_SYNC_CHAR,
-        Mode::Three(_) => x == RTCM_SYNC_CHAR || x == NMEA_SYNC_CHAR,
-    }
+    x == UBX_SYNC_CHAR_1
+        || match mode {
+            Mode::One(_) => false,
+            Mode::Two(_) => x == RTCM_SYNC_CHAR,
+            Mode::Three(_) => matches!(x, RTCM_SYNC_CHAR | NMEA_SYNC_CHAR),
+        }
 }
 
 // The window's byte at i.
+#[tactic(auto, using(crate::proofs::Laws::joined_left, crate::proofs::Laws::joined_right))]
 pub fn byte_at(a: &[u8], b: &[u8], i: usize) -> u8
     requires { i < length a.now + length b.now }
     ensures { result ≡ get_or (a.now ++ b.now) i 0 }
@@ -81,15 +80,13 @@ pub fn byte_at(a: &[u8], b: &[u8], i: usize) -> u8
     if i < a.len() { a[i] } else { b[i - a.len()] }
 }
 
-// Whether x is among the bytes: no way out on the way, so that many are compared at a time.
+// Whether x is among the bytes: no way out on the way, so that many are compared at a time. `contains` takes twice the instructions.
 fn has(s: &[u8], x: u8) -> bool
-    ensures { result ≡ any_of (is x) s.now }
+    ensures { result ≡ list_any (is x) s.now }
 {
     let mut hit = false;
-    let mut j = 0;
-    while j < s.len() {
-        hit = hit | (s[j] == x);
-        j += 1;
+    for y in s {
+        hit |= *y == x;
     }
     hit
 }
@@ -111,15 +108,16 @@ fn tells(needle: Needle, x: u8) -> bool
 {
     match needle {
         Needle::Ubx => x == UBX_SYNC_CHAR_1,
-        Needle::UbxRtcm => x == UBX_SYNC_CHAR_1 || x == RTCM_SYNC_CHAR,
-        Needle::UbxRtcmNmea => x == UBX_SYNC_CHAR_1 || x == RTCM_SYNC_CHAR || x == NMEA_SYNC_CHAR,
+        Needle::UbxRtcm => matches!(x, UBX_SYNC_CHAR_1 | RTCM_SYNC_CHAR),
+        Needle::UbxRtcmNmea => matches!(x, UBX_SYNC_CHAR_1 | RTCM_SYNC_CHAR | NMEA_SYNC_CHAR),
         Needle::Cr => x == NMEA_END_CHAR_1,
     }
 }
 
 // Whether a byte that is looked for is among the bytes.
+#[tactic(auto, using(crate::proofs::Laws::any_two, crate::proofs::Laws::any_three))]
 fn any(needle: Needle, s: &[u8]) -> bool
-    ensures { result ≡ any_of (told needle) s.now }
+    ensures { result ≡ list_any (told needle) s.now }
 {
     match needle {
         Needle::Ubx => has(s, UBX_SYNC_CHAR_1),
@@ -131,25 +129,23 @@ fn any(needle: Needle, s: &[u8]) -> bool
     }
 }
 
-// From `from` on past whole blocks of 64 bytes that have none of what is looked for. The size is written out, here and below, so
-// that a block's bytes are compared many at a time.
-fn past_64(needle: Needle, s: &[u8], from: usize) -> usize
-    requires { from ≤ length s.now }
-    ensures { PastNone (told needle) s.now from result }
+// Past whole blocks of 64 bytes, from the start, that have none of what is looked for. The size is written out, here and below, so
+// that a block's bytes are compared many at a time. One function for both sizes, with N, takes some 5 instructions more a search.
+fn past_64(needle: Needle, s: &[u8]) -> usize
+    ensures { PastNone (told needle) s.now 0 result }
 {
-    let mut i = from;
-    while s.len() - i >= 64 {
-        let e = i + 64;
-        if any(needle, &s[i..e]) {
+    let mut i = 0;
+    for block in s.chunks_exact(64) {
+        if any(needle, block) {
             break;
         }
-        i = e;
+        i += 64;
     }
     i
 }
 
 // From `from` on past blocks of 16 bytes that have none of what is looked for, up to the end of s: the last block ends there and
-// may overlap the one before it, so that no byte is left behind the blocks.
+// may overlap the one before it, so that no byte is left behind the blocks. `chunks_exact` has no such block.
 fn past_16(needle: Needle, s: &[u8], from: usize) -> usize
     requires { (from ≤ length s.now) × (16 ≤ length s.now) }
     ensures { PastNone (told needle) s.now from result }
@@ -157,7 +153,7 @@ fn past_16(needle: Needle, s: &[u8], from: usize) -> usize
     let last = s.len() - 16;
     let mut i = from;
     while i < s.len() {
-        let j = least(i, last);
+        let j = i.min(last);
         let e = j + 16;
         if any(needle, &s[j..e]) {
             break;
@@ -167,24 +163,24 @@ fn past_16(needle: Needle, s: &[u8], from: usize) -> usize
     i
 }
 
-// From `from` on past bytes that are not looked for, byte by byte, up to `to`.
+// From `from` on past bytes that are not looked for, byte by byte, up to `to`. `position` takes up to 5 instructions more.
+#[tactic(auto, using(crate::proofs::Laws::first_here))]
 fn past_bytes(needle: Needle, s: &[u8], from: usize, to: usize) -> usize
     requires { (from ≤ to) × (to ≤ length s.now) }
     ensures { StopsBy (told needle) s.now from to result }
 {
-    let mut i = from;
-    while i < to {
+    for i in from..to {
         if tells(needle, s[i]) {
-            break;
+            return i;
         }
-        i += 1;
     }
-    i
+    to
 }
 
 // The place of the first byte of s that is looked for, or its length. Few bytes are looked at one by one. Of more, the blocks that have
 // none are passed; in the first block five bytes are looked at by themselves, since what is looked for is often near: behind the three
 // bytes of a parity, or the four that are left of a false head.
+#[tactic(auto, using(crate::proofs::Laws::first_end))]
 fn find_in(needle: Needle, s: &[u8]) -> usize
     ensures { result ≡ first (told needle) s.now }
 {
@@ -192,7 +188,7 @@ fn find_in(needle: Needle, s: &[u8]) -> usize
     if len < 16 {
         return past_bytes(needle, s, 0, len);
     }
-    let far = past_64(needle, s, 0);
+    let far = past_64(needle, s);
     if far == 0 {
         let near = past_bytes(needle, s, 0, 5);
         if near < 5 {
@@ -207,6 +203,7 @@ fn find_in(needle: Needle, s: &[u8]) -> usize
 }
 
 // The place of the window's first byte from k on that is looked for, or the window's length where there is none.
+#[tactic(auto, using(crate::proofs::Laws::in_two))]
 fn find(needle: Needle, a: &[u8], b: &[u8], k: usize) -> usize
     requires { k ≤ length a.now + length b.now }
     ensures value { result ≡ k + first (told needle) (drop k (a.now ++ b.now)) }
@@ -225,6 +222,7 @@ fn find(needle: Needle, a: &[u8], b: &[u8], k: usize) -> usize
 }
 
 // The place of the window's first sync byte from k on, or the window's length where there is none.
+#[tactic(auto, using(crate::proofs::Laws::told_syncs))]
 pub fn find_sync(mode: Mode, a: &[u8], b: &[u8], k: usize) -> usize
     requires { k ≤ length a.now + length b.now }
     ensures value { result ≡ k + first_sync mode (drop k (a.now ++ b.now)) }
@@ -234,6 +232,7 @@ pub fn find_sync(mode: Mode, a: &[u8], b: &[u8], k: usize) -> usize
 }
 
 // The place of the first sync byte of s, or its length where there is none.
+#[tactic(auto, using(crate::proofs::Laws::told_syncs, crate::proofs::Laws::first_le))]
 pub fn sync_in(mode: Mode, s: &[u8]) -> usize
     ensures value { result ≡ first_sync mode s.now }
     ensures upper_bound { result ≤ length s.now }
@@ -248,8 +247,8 @@ pub fn sum_of(a: &[u8], b: &[u8], from: usize, to: usize) -> Sums
     ensures { result ≡ sum_of (take (to - from) (drop from (a.now ++ b.now))) }
 {
     let la = a.len();
-    let f = least(from, la);
-    let t = least(to, la);
+    let f = from.min(la);
+    let t = to.min(la);
     let first = sum::update(sum::new(), &a[f..t]);
     let start = from - f;
     let end = to - t;
@@ -261,10 +260,10 @@ pub fn parity_of(a: &[u8], b: &[u8], to: usize) -> u32
     requires { to ≤ length a.now + length b.now }
     ensures { result ≡ parity_of (take to (a.now ++ b.now)) }
 {
-    let t = least(to, a.len());
-    let first = parity::update(parity::new(), &a[0..t]);
+    let t = to.min(a.len());
+    let first = parity::update(parity::new(), &a[..t]);
     let end = to - t;
-    parity::update(first, &b[0..end])
+    parity::update(first, &b[..end])
 }
 
 // The window's first CR that is followed at once by LF.
@@ -272,14 +271,14 @@ pub fn find_end(a: &[u8], b: &[u8]) -> Option<usize>
     ensures { result ≡ end_mark 0 (a.now ++ b.now) }
 {
     let w = a.len() + b.len();
-    let mut found = None;
     let mut i = find(Needle::Cr, a, b, 0);
-    while i + 1 < w {
+    loop {
+        if w <= i + 1 {
+            break None;
+        }
         if byte_at(a, b, i + 1) == NMEA_END_CHAR_2 {
-            found = Some(i);
-            break;
+            break Some(i);
         }
         i = find(Needle::Cr, a, b, i + 1);
     }
-    found
 }

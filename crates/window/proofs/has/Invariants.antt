@@ -1,12 +1,8 @@
-use mathlib.Core.Path.{◌≡◌}
-use mathlib.Core.Bool.{◌||◌}
-use Prim.Native.Nat.{◌≤◌, ◌-◌}
-use lib.ListN.{length, drop}
-use Rattle.window.specs.Search.{any_of, is}
+-- `window::has` meets its contract: what is hit is among the bytes so far.
+use Rattle.std.proofs.Common.{◌≡◌, take}
+use Rattle.std.specs.List.{list_any}
+use Rattle.window.specs.Search.{is}
 use Rattle.window.proofs.has.Given as goal
 
-abbrev pub invariant-loop-j : goal.invariant-loop-j
-invariant-loop-j l = (l.j ≤ length l.s) × ((l.hit || any_of (is l.x) (drop l.j l.s)) ≡ any_of (is l.x) l.s)
-
-abbrev pub decreases-loop-j : goal.decreases-loop-j
-decreases-loop-j l = length l.s - l.j
+abbrev pub invariant-loop-y : goal.invariant-loop-y
+invariant-loop-y l = l.hit ≡ list_any (is l.x) (take l.y-index l.s)

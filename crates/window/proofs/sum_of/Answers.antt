@@ -9,5 +9,5 @@ use Rattle.window.proofs.sum_of.Goals as goal
 
 pub returns : goal.returns
 returns c = let x = c.args in
-    c.update.ensures ∙ rw (c.update-first.ensures, c.new.ensures, c.least-f.ensures, c.least-t.ensures, ← sum_append zeros)
+    c.update.ensures ∙ rw (c.update-first.ensures, c.new.ensures, c.min-f.ensures, c.min-t.ensures, ← sum_append zeros)
     (ap (λ (l : List ℕ). sum_on zeros l) (part_two x.a.now x.b.now x.from x.to c.requires.0))
