@@ -33,6 +33,7 @@ pub enum Sight {
 }
 
 // A whole UBX frame: its sum decides.
+#[tactic(auto, unfolding(crate::specs::Moves::judge))]
 pub fn ubx_judged(a: &[u8], b: &[u8], head: UbxHead) -> Verdict
     requires { head.n + 8 ≤ length a.now + length b.now }
     ensures { result ≡ judge (Ubx head.class head.id head.n) (a.now ++ b.now) }
@@ -86,6 +87,7 @@ fn at_ubx(max: u16, cap: usize, a: &[u8], b: &[u8]) -> Sight
 }
 
 // A whole RTCM frame with its parity: that decides.
+#[tactic(auto, unfolding(crate::specs::Moves::judge))]
 fn parity_checked(a: &[u8], b: &[u8], n: usize) -> Verdict
     requires { n + 6 ≤ length a.now + length b.now }
     ensures { result ≡ judge (Rtcm n true) (a.now ++ b.now) }
@@ -99,6 +101,7 @@ fn parity_checked(a: &[u8], b: &[u8], n: usize) -> Verdict
 }
 
 // A whole RTCM frame, read with parity or as the crate reads it.
+#[tactic(auto, unfolding(crate::specs::Moves::judge))]
 fn rtcm_judged(a: &[u8], b: &[u8], n: usize, parity: bool) -> Verdict
     requires { n + around parity ≤ length a.now + length b.now }
     ensures { result ≡ judge (Rtcm n parity) (a.now ++ b.now) }
