@@ -28,7 +28,7 @@ struct Memory {
     recorded: [u8; LONGEST],
 }
 
-// Reads until `to` is full, the file ends or a read fails: how many bytes that gave.
+// Reads until `to` is full, the file ends or a read fails: how many bytes that gave, which `read_exact` doesn't say.
 fn read_full(file: &mut impl Read, to: &mut [u8]) -> usize
     ensures { result ≤ length to.new }
 {
@@ -73,7 +73,7 @@ fn replay_rest(
     replaying::replay(call, words, carry, chunk, recorded)
 }
 
-// Replays the record of a head, in memory for a carry, a chunk and the carry that is recorded.
+// Replays the record of a head. The three are no `Memory` here: slices of fields behind one `&mut` get no proof.
 fn replay_record(
     file: &mut impl Read,
     list: List,
