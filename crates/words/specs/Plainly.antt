@@ -1,13 +1,8 @@
 -- What is read on the quick way: a state whose mode reads no parity. Where none is told, the words may still be a state's.
 use Rattle.std.specs.Prelude.{◌≡◌, false, List, ℕ, Option, Some, None}
-use Rattle.window.specs.declared.Mode.{Mode}
 use Rattle.window.specs.Sync.{has_parity}
 use Rattle.state.specs.declared.State.{State}
-use Rattle.words.specs.Words.{read_mode, read_state}
-
-abbrev pub ModeReadsPlainly : ℕ → Option Mode → Type 0
-ModeReadsPlainly n None = Unit {0}
-ModeReadsPlainly n (Some mode) = (read_mode n ≡ Some mode) × (has_parity mode ≡ false)
+use Rattle.words.specs.Words.{read_state}
 
 abbrev pub ReadsPlainly : List ℕ → Option State → Type 0
 ReadsPlainly words None = Unit {0}

@@ -6,7 +6,7 @@ ghost use Rattle.state.specs.Refusals.{leave_no};
 ghost use Rattle.framer.specs.Answers.{side_no};
 ghost use Rattle.framer.specs.Step.{frame_at};
 ghost use Rattle.words.specs.Words.{mode_no, open_no, read_mode, max_or_open_too_big, state_by, read_state, with_state, opened_words, stepped_words, closed_words, frame_words, plain_words, wrong_words, answer_words, report_words};
-ghost use Rattle.words.specs.Plainly.{ModeReadsPlainly, ReadsPlainly};
+ghost use Rattle.words.specs.Plainly.{ReadsPlainly};
 
 use claim::Kind;
 use framer::Answer;
@@ -38,19 +38,6 @@ pub fn read_mode(n: u64) -> Option<Mode>
         19 => Some(Mode::Three(true)),
         _ => None,
     }
-}
-
-// The mode of a number, where it reads no parity; of another number it is not told.
-fn plain_mode(n: u64) -> Option<Mode>
-    ensures { ModeReadsPlainly n result }
-{
-    let plain = match n {
-        1 => Mode::One(false),
-        2 => Mode::Two(false),
-        3 => Mode::Three(false),
-        _ => return None,
-    };
-    Some(plain)
 }
 
 fn open_no(open: bool) -> u64
@@ -126,7 +113,10 @@ pub fn read_plain(words: &[u64; 24], open: bool) -> Option<State>
     if words[6] != open_no(open) {
         return None;
     }
-    let mode = plain_mode(words[0])?;
+    let mode = read_mode(words[0])?;
+    if window::has_parity(mode) {
+        return None;
+    }
     Some(state_by(mode, words))
 }
 
