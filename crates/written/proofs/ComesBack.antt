@@ -9,6 +9,7 @@ use lib.ListN.{length, drop, length-append, drop_of_length-le}
 use lib.Seq.{take_at}
 use lib.Dec.{ltb, leb}
 use borrow.Author.Tests.{lt-ltb, le-ltb, le-leb}
+use Rattle.std.specs.Prelude.{Ok}
 use Rattle.window.specs.declared.Mode.{Mode}
 use Rattle.window.specs.Pick.{pick}
 use Rattle.window.specs.Sync.{first}
@@ -17,7 +18,6 @@ use Rattle.claim.specs.Verdicts.{can_hand}
 use Rattle.look.specs.Rules.{look}
 use Rattle.look.specs.Moves.{step_move}
 use Rattle.state.specs.declared.State.{State}
-use Rattle.state.specs.declared.Leave.TheVariants.{Granted}
 use Rattle.state.specs.Words.{width, idle}
 use Rattle.state.proofs.Granted.{Usable, grant_use, Openable, grant_open}
 use Rattle.state.proofs.Window.{drain_zero}
@@ -61,7 +61,7 @@ module _ (mode : Mode) (max : ℕ) (carry : List ℕ) (class id : ℕ) (payload 
   unfolding start pick
   starts = rw (le-ltb _ _ small)
 
-  opens : opening fresh carry chunk ≡ record { leave = Granted; state = at 0 }
+  opens : opening fresh carry chunk ≡ record { leave = Ok tt; state = at 0 }
   unfolding opening first pick
   opens =
       let ok : Openable fresh carry chunk = record {
@@ -101,7 +101,7 @@ module _ (mode : Mode) (max : ℕ) (carry : List ℕ) (class id : ℕ) (payload 
   unfolding step step_move look
   ends = rw (grant_use (at end) carry chunk (usable end (omega arith)), used_up) (ap (λ (s : State). out NeedMore s carry) (drain_zero (at end)))
 
-  closes : closing (at end) carry chunk ≡ record { result = record { leave = Granted; used = end; kept = 0; lost = 0; state = fresh }; carry = carry }
+  closes : closing (at end) carry chunk ≡ record { result = record { leave = Ok tt; used = end; kept = 0; lost = 0; state = fresh }; carry = carry }
   unfolding closing
   closes =
       let kept : min (width (at end)) (length carry) ≡ 0 = omega (arith, chunk_length) in

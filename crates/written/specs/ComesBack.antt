@@ -1,7 +1,6 @@
 -- 02, "Writing frames": a frame so written, fed alone as one chunk to a fresh parser, gives that frame and nothing else.
-use Rattle.std.specs.Prelude.{◌≡◌, List, [], ◌∷◌, ℕ, ◌+◌, ◌≤◌, length, take}
+use Rattle.std.specs.Prelude.{◌≡◌, List, [], ◌∷◌, ℕ, ◌+◌, ◌≤◌, length, take, Ok}
 use Rattle.window.specs.declared.Mode.{Mode}
-use Rattle.state.specs.declared.Leave.TheVariants.{Granted as FramerGranted}
 use Rattle.taking.specs.declared.Side.TheVariants.{Chunk}
 use Rattle.taking.specs.declared.Place.{Place}
 use Rattle.taking.specs.View.{view}
@@ -38,11 +37,11 @@ body_at n = record { side = Chunk; start = 6; len = n + 2 }
 
 -- that frame and nothing else: all of the chunk is used, and the carry is as it was
 pub record GivesIt (mode : Mode) (max : ℕ) (carry : List ℕ) (class id : ℕ) (payload chunk : List ℕ) : Type 0 where
-  pub opens : (opened mode max carry chunk).leave ≡ FramerGranted
+  pub opens : (opened mode max carry chunk).leave ≡ Ok tt
   pub says : (first mode max carry chunk).result.answer ≡ UbxFrame class id 0 (body_at (length payload))
   pub body : view (first mode max carry chunk).carry chunk (body_at (length payload)) ≡ body_of class id payload
   pub ends : (second mode max carry chunk).result.answer ≡ NeedMore
-  pub closes : (closed mode max carry chunk).result.leave ≡ FramerGranted
+  pub closes : (closed mode max carry chunk).result.leave ≡ Ok tt
   pub used : (closed mode max carry chunk).result.used ≡ length payload + 8
   pub kept : (closed mode max carry chunk).result.kept ≡ 0
   pub lost : (closed mode max carry chunk).result.lost ≡ 0
