@@ -1,5 +1,5 @@
 -- Laws of the carry's writes: what a drain comes to, and how a copy goes on by a byte and by a block.
-use mathlib.Core.Path.{◌≡◌, refl, sym, ap, ◌∙◌}
+use mathlib.Core.Path.{◌≡◌, sym, ap, ◌∙◌}
 use Prim.Native.Nat.{ℕ, zero, suc, ◌+◌, ◌-◌, ◌≤◌, ◌<◌}
 use native.Mathlib.Nat.{zero-add, suc-add}
 use native.Mathlib.Numerals.{add-one}
@@ -7,8 +7,6 @@ use native.Mathlib.Omega.{arith}
 use mathlib.Core.List.{List, [], ◌∷◌, ◌++◌, append_assoc}
 use lib.ListN.{get_or, set, length, take, drop, drop_of_length-le}
 use lib.Seq.{get_or-take, paste-suc, length-take-le, take-nil, take-append-le, take-append-add, take-take, take-add, drop-append-add, drop-drop, paste, length_paste_head}
-use borrow.Rule.Slice.PartMut.{put_mid}
-use Rattle.std.proofs.lemmas.Slice.{put_mid-paste}
 use Rattle.std.specs.List.{copy_within}
 use Rattle.carry.specs.Carry.{drain_carry}
 
@@ -34,15 +32,15 @@ drain_ends xs k live h =
 
 -- ---- a copy
 
--- a write of n elements to the part of d that starts at `at`
-pub write_is : (at k : ℕ) (d xs : List ℕ) (n : ℕ) → n ≡ k → n ≡ length xs → put_mid at k d xs ≡ paste d at xs n
-write_is at k d xs n h e = put_mid-paste at k d xs xs n refl h e
-
 -- a copy of i elements goes on by one more
+pub byte_goes_on : (d : List ℕ) (at : ℕ) (s : List ℕ) (i : ℕ) → i < length s → at + i < length d → set (paste d at s i) (at + i) (get_or s i 0) ≡ paste d at s (i + 1)
+byte_goes_on d at s i more fits = rw add-one (paste-suc d at s i 0 fits more)
+
+-- the same of the first n elements
 pub copy_goes_on : (d : List ℕ) (at : ℕ) (s : List ℕ) (i n : ℕ) → i < length (take n s) → n ≤ length s → at + n ≤ length d → set (paste d at s i) (at + i) (get_or (take n s) i 0) ≡ paste d at s (i + 1)
 copy_goes_on d at s i n more hs hd =
     let less : i < n = omega (arith, more, length-take-le n s hs) in
-    rw (add-one, get_or-take n s i 0 less) (paste-suc d at s i 0 (omega arith) (omega arith))
+    rw (get_or-take n s i 0 less) (byte_goes_on d at s i (omega arith) (omega arith))
 
 -- ---- a copy of i elements, and over it the block of `size` elements that starts at j
 

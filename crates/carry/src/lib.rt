@@ -78,10 +78,13 @@ fn block_at(from: &[u8], i: usize) -> [u8; BLOCK]
 }
 
 // Writes the block to the carry from byte `at` on; all other bytes stay.
-#[tactic(auto, using(crate::proofs::Laws::write_is))]
+// Tried: copy_from_slice of the block tests for overlap in each turn of extend_by_blocks, and keeps extend from being inlined.
+#[tactic(auto, using(crate::proofs::Laws::byte_goes_on))]
 fn put_block(carry: &mut [u8], at: usize, block: [u8; BLOCK])
     requires { at + 32 ≤ length carry.old }
     ensures { carry.new ≡ paste carry.old at block 32 }
 {
-    carry[at..at + BLOCK].copy_from_slice(&block);
+    for (j, byte) in block.iter().enumerate() {
+        carry[at + j] = *byte;
+    }
 }
