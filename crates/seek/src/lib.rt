@@ -115,6 +115,7 @@ fn glance_rtcm(parity: bool, cap: usize, s: &[u8], w: usize) -> Option<Sight>
     if w < size {
         return Some(Sight::Say(claim::lacks(cap, w, 1, size)));
     }
+    // Two tests, not one by `||`: joined, they hide from the proof which of them failed.
     if parity {
         return None;
     }
@@ -193,6 +194,7 @@ pub fn seek(mode: Mode, max: u16, cap: usize, a: &[u8], b: &[u8]) -> Stop
 {
     let w = a.len() + b.len();
     let mut skip = 0;
+    // A `while`, no `for`: a turn goes on at the next sync byte, not at the next byte.
     while skip < w {
         match look_at(mode, max, cap, a, b, skip) {
             Sight::Pass(why) => {
