@@ -17,7 +17,7 @@ use Rattle.window.specs.Pick.{pick}
 use Rattle.window.proofs.Pick.{by_pick}
 use Rattle.window.specs.Sync.{is_sync, first}
 use Rattle.window.specs.EndMark.{end_mark}
-use Rattle.window.specs.Search.{is, syncs_of, told, PastNone, StopsBy}
+use Rattle.window.specs.Search.{is, syncs_of, told, StopsBy}
 use Rattle.window.specs.declared.Mode.{Mode, TheVariants.{One, Two, Three}}
 use Rattle.window.specs.declared.Needle.TheVariants.{UbxRtcm, UbxRtcmNmea}
 

@@ -6,7 +6,6 @@ use Rattle.window.specs.Sync.{is_sync}
 use Rattle.window.proofs.Laws.{from, first_here, first_end}
 use Rattle.state.proofs.Window.{drain_zero}
 use Rattle.opening.proofs.Slices.{syncs_at_once}
-use Rattle.quick_frames.proofs.Ways.{slices}
 use Rattle.quick_step.proofs.Noise.{window_ahead, drain_ahead}
 use Rattle.quick_step.proofs.past_noise.Goals as goal
 
@@ -19,7 +18,7 @@ returns-then-is_sync c = let start = c in
 pub returns-then-off-live : goal.returns-then-off-live
 returns-then-off-live c = let start = c in
     let x = start.args in let r = start.requires in
-    c.drained.ensures ∙ rw (c.find_sync-k.ensures.value, slices x.s x.carry.now x.chunk.now r, zero-add)
+    c.drained.ensures ∙ rw (c.find_sync-k.ensures.value, c.window_of.ensures.carry_left, c.window_of.ensures.chunk_ahead, zero-add)
 
 pub returns-then-is_sync-2 : goal.returns-then-is_sync-2
 returns-then-is_sync-2 c = let start = c in
