@@ -168,7 +168,7 @@ fn at_nmea(mode: Mode, cap: usize, window: Window) -> Verdict
     }
 }
 
-// What a step does at the window's front.
+// What a step does at the window's front. Mode, MAX and C stay three parameters: a rule takes just those that it goes by.
 pub fn look(mode: Mode, max: u16, cap: usize, window: Window) -> Sight
     ensures { result ≡ step_move mode max cap (length window.entry.carry.now) (bytes window.entry) }
 {
