@@ -7,6 +7,7 @@ use native.Mathlib.Omega.{arith}
 use lib.ListN.{length, get_or, take}
 use lib.Dec.{eqb}
 use borrow.Author.Tests.{eqb-true, eqb-false}
+use Rattle.std.specs.Int.{from_bool}
 use Rattle.window.specs.Pick.{pick}
 use Rattle.window.proofs.Pick.{by_pick}
 use Rattle.calendar.specs.Calendar.{leap, year_length, month_lengths, days_in, days_of_years, days_before_year, total}
@@ -183,3 +184,8 @@ pub leap_month_before : (k : ℕ) → 1 < k → k < 12 → get_or before k 0 + 1
 leap_month_before zero g h = absurd (omega arith)
 leap_month_before (suc zero) g h = absurd (omega arith)
 leap_month_before (suc (suc k)) g h = rw (plain_before (suc (suc k)) h) (sym (leap_before k))
+
+-- a day more, or none
+pub a_day : (b : Bool) → from_bool b ≤ 1
+a_day true = omega arith
+a_day false = omega arith

@@ -1,25 +1,17 @@
 -- What the tests of a date and of a time show.
-use mathlib.Core.Path.{◌≡◌, refl, sym}
-use mathlib.Core.Bool.{Bool, true, false, ◌&&◌, true≢false}
+use mathlib.Core.Path.{◌≡◌}
+use mathlib.Core.Bool.{true}
 use Prim.Native.Nat.{ℕ, ◌-◌, ◌≤◌, ◌<◌}
 use native.Mathlib.Omega.{arith}
-use lib.Dec.{leb}
 use borrow.Author.Tests.{leb-true}
-use Rattle.calendar.specs.Calendar.{days_in, day_number}
+use Rattle.std.proofs.lemmas.Bool.{and_parts}
+use Rattle.calendar.specs.Calendar.{day_number}
 use Rattle.calendar.specs.Ranges.{within, is_date, is_time}
 use Rattle.calendar.proofs.Calendar.{days_bound, years_bound, months_bound}
 
-pub and_left : (a b : Bool) → (a && b) ≡ true → a ≡ true
-and_left true b e = refl
-and_left false b e = absurd (true≢false (sym e))
-
-pub and_right : (a b : Bool) → (a && b) ≡ true → b ≡ true
-and_right true b e = e
-and_right false b e = absurd (true≢false (sym e))
-
 pub is_within : (low high x : ℕ) → within low high x ≡ true → (low ≤ x) × (x ≤ high)
 unfolding within
-is_within low high x e = (leb-true low x (and_left (leb low x) (leb x high) e), leb-true x high (and_right (leb low x) (leb x high) e))
+is_within low high x e = let p = and_parts _ _ e in (leb-true low x p.0, leb-true x high p.1)
 
 -- what a date that passes is, and a time
 pub record Dated (y m d : ℕ) : Type 0 where
@@ -30,14 +22,11 @@ pub record Dated (y m d : ℕ) : Type 0 where
 pub dated : (year month day : ℕ) → is_date year month day ≡ true → Dated year month day
 unfolding is_date
 dated year month day e =
-    let rest = and_right (within 1999 2099 year) (within 1 12 month && within 1 (days_in year month) day) e in
-    let m = is_within 1 12 month (and_left (within 1 12 month) (within 1 (days_in year month) day) rest) in
-    let d = is_within 1 (days_in year month) day (and_right (within 1 12 month) (within 1 (days_in year month) day) rest) in
-    record {
-      year = is_within 1999 2099 year (and_left (within 1999 2099 year) (within 1 12 month && within 1 (days_in year month) day) e);
-      month = m;
-      day = (d.0, omega (arith, (days_bound year month m.0 m.1).1));
-    }
+    let p = and_parts _ _ e in
+    let q = and_parts _ _ p.1 in
+    let m = is_within 1 12 month q.0 in
+    let d = is_within 1 _ day q.1 in
+    record { year = is_within 1999 2099 year p.0; month = m; day = (d.0, omega (arith, (days_bound year month m.0 m.1).1)) }
 
 pub record Clocked (h m s : ℕ) : Type 0 where
   pub hour : h ≤ 23
@@ -47,11 +36,12 @@ pub record Clocked (h m s : ℕ) : Type 0 where
 pub clocked : (hour minute second : ℕ) → is_time hour minute second ≡ true → Clocked hour minute second
 unfolding is_time
 clocked hour minute second e =
-    let rest = and_right (within 0 23 hour) (within 0 59 minute && within 0 60 second) e in
+    let p = and_parts _ _ e in
+    let q = and_parts _ _ p.1 in
     record {
-      hour = (is_within 0 23 hour (and_left (within 0 23 hour) (within 0 59 minute && within 0 60 second) e)).1;
-      minute = (is_within 0 59 minute (and_left (within 0 59 minute) (within 0 60 second) rest)).1;
-      second = (is_within 0 60 second (and_right (within 0 59 minute) (within 0 60 second) rest)).1;
+      hour = (is_within 0 23 hour p.0).1;
+      minute = (is_within 0 59 minute q.0).1;
+      second = (is_within 0 60 second q.1).1;
     }
 
 -- a day in range has a number that is neither small nor large

@@ -11,49 +11,37 @@ const MONTHS: [u64; 12] = [31, 28, 31, 30, 31, 30, 31, 31, 30, 31, 30, 31];
 const BEFORE: [u64; 12] = [0, 31, 59, 90, 120, 151, 181, 212, 243, 273, 304, 334];
 
 // Every year that 4 divides, but of those that 100 divides only those that 400 does.
+#[tactic(auto, unfolding(crate::specs::Calendar::leap, window::specs::Pick::pick))]
 fn is_leap(year: u64) -> bool
     ensures { result ≡ leap year }
 {
-    if year % 400 == 0 {
-        return true;
-    }
-    if year % 100 == 0 {
-        return false;
-    }
-    year % 4 == 0
+    year % 400 == 0 || year % 100 != 0 && year % 4 == 0
 }
 
 // How long a month is.
+#[tactic(auto, using(crate::proofs::Calendar::plain_month), unfolding(window::specs::Pick::pick))]
 fn days_in(year: u64, month: u64) -> u64
     requires { (1 ≤ month) × (month ≤ 12) }
     ensures { result ≡ days_in year month }
 {
-    let at = (month - 1) as usize;
-    if month != 2 {
-        return MONTHS[at];
+    if month == 2 && is_leap(year) {
+        29
+    } else {
+        MONTHS[(month - 1) as usize]
     }
-    if is_leap(year) {
-        return 29;
-    }
-    MONTHS[at]
 }
 
 // The days of the months before one.
+#[tactic(auto, using(crate::proofs::Calendar::month_before, crate::proofs::Calendar::leap_month_before))]
 fn days_before_month(year: u64, month: u64) -> u64
     requires { (1 ≤ month) × (month ≤ 12) }
     ensures { result ≡ days_before_month year month }
 {
-    let at = (month - 1) as usize;
-    if month <= 2 {
-        return BEFORE[at];
-    }
-    if is_leap(year) {
-        return BEFORE[at] + 1;
-    }
-    BEFORE[at]
+    BEFORE[(month - 1) as usize] + u64::from(2 < month && is_leap(year))
 }
 
 // The days of the years before one: 365 each, and one more for each fourth year, but for the hundredths, and for each four hundredth.
+#[tactic(auto, using(crate::proofs::Calendar::years))]
 fn days_before_year(year: u64) -> u64
     requires { (1970 ≤ year) × (year ≤ 65535) }
     ensures { result ≡ days_before_year year }
@@ -62,6 +50,7 @@ fn days_before_year(year: u64) -> u64
 }
 
 // Days since 1970-01-01.
+#[tactic(auto, using(crate::proofs::Calendar::years_bound, crate::proofs::Calendar::months_bound), unfolding(crate::specs::Calendar::day_number))]
 pub fn day_number(year: u64, month: u64, day: u64) -> u64
     requires le_year { (1970 ≤ year) × (year ≤ 65535) }
     requires le_month { (1 ≤ month) × (month ≤ 12) }
@@ -79,37 +68,26 @@ pub fn seconds_at(days: u64, hour: u64, minute: u64, second: u64) -> u64
     ((days * 24 + hour) * 60 + minute) * 60 + second
 }
 
+// Both ends belong to a range. It stays a function: seven ranges here and in `stamp` read by one name what `contains` says of each.
+#[tactic(auto, unfolding(crate::specs::Ranges::within))]
 pub fn within(low: u64, high: u64, x: u64) -> bool
     ensures { result ≡ within low high x }
 {
-    if x < low {
-        return false;
-    }
-    x <= high
+    (low..=high).contains(&x)
 }
 
 // Year 1999 to 2099, and a real date.
+#[tactic(auto, using(crate::proofs::Ranges::is_within), unfolding(crate::specs::Ranges::is_date))]
 pub fn is_date(year: u64, month: u64, day: u64) -> bool
     ensures { result ≡ is_date year month day }
 {
-    if !within(1999, 2099, year) {
-        return false;
-    }
-    if !within(1, 12, month) {
-        return false;
-    }
-    within(1, days_in(year, month), day)
+    within(1999, 2099, year) && within(1, 12, month) && within(1, days_in(year, month), day)
 }
 
 // Second 60 may stand in any minute.
+#[tactic(auto, unfolding(crate::specs::Ranges::is_time))]
 pub fn is_time(hour: u64, minute: u64, second: u64) -> bool
     ensures { result ≡ is_time hour minute second }
 {
-    if !within(0, 23, hour) {
-        return false;
-    }
-    if !within(0, 59, minute) {
-        return false;
-    }
-    within(0, 60, second)
+    within(0, 23, hour) && within(0, 59, minute) && within(0, 60, second)
 }

@@ -1,11 +1,13 @@
 // A recorded call, and how it is made.
 #![tactic(auto)]
 
-ghost use Rattle.std.specs.Prelude.{◌≡◌};
+ghost use Rattle.std.specs.Prelude.{◌≡◌, Some};
 ghost use Rattle.calls.specs.Made.{answer_out, step_out, made};
+ghost use Rattle.calls.specs.Text.{call_text};
 
-// Start and view have what they are asked with. NoCall is for words that no call has: another operation, MAX over 65,535,
-// something asked of a call that asks nothing.
+use std::fmt;
+
+// Start and view have what they are asked with. NoCall, which no record has, stays beside None: `make` promises an answer for it, `made`.
 #[derive(Clone, Copy)]
 pub enum Call {
     Start { mode: u64, max: u16 },
@@ -16,51 +18,49 @@ pub enum Call {
     NoCall,
 }
 
+impl fmt::Display for Call {
+    ghost output = { λ call. Some (call_text call) };
+
+    fn fmt<W: fmt::Write>(&self, f: &mut fmt::Formatter<W>) -> fmt::Result {
+        match self {
+            Call::Start { .. } => write!(f, "start"),
+            Call::Open => write!(f, "open"),
+            Call::Step => write!(f, "step"),
+            Call::Close => write!(f, "close"),
+            Call::View { .. } => write!(f, "view"),
+            Call::NoCall => write!(f, "no call"),
+        }
+    }
+}
+
 // What stands in out before a call that writes all of it.
 const UNWRITTEN: u64 = 0xABAD_1DEA;
 
-fn start_of(words: &[u64; 34]) -> Call {
-    let max = words[4];
-    if 65535 < max {
-        return Call::NoCall;
-    }
-    if words[5] != 0 {
-        return Call::NoCall;
-    }
-    Call::Start {
-        mode: words[3],
-        max: max as u16,
-    }
+// Asked with 0 in word 5, and in word 4 with a MAX of 65,535 or less.
+fn start_of(words: &[u64; 34]) -> Option<Call> {
+    let max = u16::try_from(words[4]).ok()?;
+    let mode = words[3];
+    (words[5] == 0).then_some(Call::Start { mode, max })
 }
 
 // A call that is asked with nothing: words 3 to 5 are 0.
-fn plain(call: Call, words: &[u64; 34]) -> Call {
-    if words[3] != 0 {
-        return Call::NoCall;
-    }
-    if words[4] != 0 {
-        return Call::NoCall;
-    }
-    if words[5] != 0 {
-        return Call::NoCall;
-    }
-    call
+fn plain(call: Call, words: &[u64; 34]) -> Option<Call> {
+    (words[3] == 0 && words[4] == 0 && words[5] == 0).then_some(call)
 }
 
-// The call that a record's words say.
-pub fn of(words: &[u64; 34]) -> Call {
-    let operation = words[0];
-    match operation {
+// The call that a record's words say. Words of another operation, or asked with what their operation isn't, say none.
+pub fn of(words: &[u64; 34]) -> Option<Call> {
+    match words[0] {
         1 => start_of(words),
         2 => plain(Call::Open, words),
         3 => plain(Call::Step, words),
         4 => plain(Call::Close, words),
-        5 => Call::View {
+        5 => Some(Call::View {
             side: words[3],
             start: words[4],
             len: words[5],
-        },
-        _ => Call::NoCall,
+        }),
+        _ => None,
     }
 }
 
@@ -68,19 +68,22 @@ pub fn of(words: &[u64; 34]) -> Call {
 fn answer(n: u64) -> [u64; 16]
     ensures { result ≡ answer_out n }
 {
-    [n, 0, 0, 0, 0, 0, 0, 0, 0, 0, 0, 0, 0, 0, 0, 0]
+    let mut all = [0; 16];
+    all[0] = n;
+    all
 }
 
 // The out words of a step.
 fn step_out(out: [u64; 8]) -> [u64; 16]
     ensures { result ≡ step_out out }
 {
-    [
-        out[0], out[1], out[2], out[3], out[4], out[5], out[6], out[7], 0, 0, 0, 0, 0, 0, 0, 0,
-    ]
+    let mut all = [0; 16];
+    all[..8].copy_from_slice(&out);
+    all
 }
 
 // Makes the call and hands its out words back, 0 where it has none.
+#[tactic(auto, unfolding(crate::specs::Made::made))]
 pub fn make(call: Call, state: &mut [u64; 24], carry: &mut [u8], chunk: &[u8]) -> [u64; 16]
     ensures value { result ≡ (made call state.old carry.old chunk.now).out }
     ensures state_after { state.new ≡ (made call state.old carry.old chunk.now).words }

@@ -1,36 +1,18 @@
--- Laws of the carry's writes: one turn of each copy, and what a whole one comes to.
+-- Laws of the carry's writes: what a drain comes to, and how a copy goes on by a byte and by a block.
 use mathlib.Core.Path.{◌≡◌, refl, sym, ap, ◌∙◌}
 use Prim.Native.Nat.{ℕ, zero, suc, ◌+◌, ◌-◌, ◌≤◌, ◌<◌}
-use native.Mathlib.Nat.{le_of_suc-le-suc, not-suc-le-zero, zero-add, suc-add, sub-zero}
+use native.Mathlib.Nat.{zero-add, suc-add}
 use native.Mathlib.Numerals.{add-one}
 use native.Mathlib.Omega.{arith}
 use mathlib.Core.List.{List, [], ◌∷◌, ◌++◌, append_assoc}
-use lib.ListN.{length, take, drop, get_or, set, length-drop, take-append-drop, drop_of_length-le}
-use lib.Seq.{get_or-drop, get_or-append-add, length-take-le, take-nil, take-append-le, take-append-add, take-take, take-add, drop-append-add, drop-drop, paste, length_paste_head}
+use lib.ListN.{get_or, set, length, take, drop, drop_of_length-le}
+use lib.Seq.{get_or-take, paste-suc, length-take-le, take-nil, take-append-le, take-append-add, take-take, take-add, drop-append-add, drop-drop, paste, length_paste_head}
+use borrow.Rule.Slice.PartMut.{put_mid}
+use Rattle.std.proofs.lemmas.Slice.{put_mid-paste}
+use Rattle.std.specs.List.{copy_within}
 use Rattle.carry.specs.Carry.{drain_carry}
 
--- a store takes the copy of i bytes to the copy of one more
-pub store : (src dst : List ℕ) (i : ℕ) → i < length src → i < length dst → set (take i src ++ drop i dst) i (get_or src i 0) ≡ take (suc i) src ++ drop (suc i) dst
-store [] dst i h k = absurd (not-suc-le-zero h)
-store (x ∷ xs) [] i h k = absurd (not-suc-le-zero k)
-store (x ∷ xs) (y ∷ ys) zero h k = refl
-store (x ∷ xs) (y ∷ ys) (suc i) h k = ap (λ (l : List ℕ). x ∷ l) (store xs ys i (le_of_suc-le-suc h) (le_of_suc-le-suc k))
-
--- the byte that the next turn reads has not been written
-pub unread : (xs : List ℕ) (k i : ℕ) → k + i < length xs → get_or (take i (drop k xs) ++ drop i xs) (k + i) 0 ≡ get_or (drop k xs) i 0
-unread xs k i h =
-    let p : List ℕ = take i (drop k xs) in
-    let e : length p + k ≡ k + i = rw (length-take-le i (drop k xs) (simp length-drop (omega arith))) (omega arith) in
-    ap (λ (n : ℕ). get_or (p ++ drop i xs) n 0) (sym e)
-    ∙ get_or-append-add p (drop i xs) k 0
-    ∙ get_or-drop i xs k 0
-    ∙ ap (λ (n : ℕ). get_or xs n 0) (omega arith)
-    ∙ sym (get_or-drop k xs i 0)
-
-pub move_turn : (xs : List ℕ) (k i : ℕ) → k + i < length xs → set (take i (drop k xs) ++ drop i xs) i (get_or (take i (drop k xs) ++ drop i xs) (k + i) 0) ≡ take (i + 1) (drop k xs) ++ drop (i + 1) xs
-move_turn xs k i h = rw (unread xs k i h, add-one) (store (drop k xs) xs i (simp length-drop (omega arith)) (omega arith))
-
--- ---- what draining comes to where no byte is moved, and where the last one has been
+-- ---- what draining comes to where nothing is left, and where the bytes left have been moved
 
 pub drain_all : (xs : List ℕ) (k live : ℕ) → live ≤ k → live ≤ length xs → drain_carry k live xs ≡ xs
 drain_all xs k live h l =
@@ -38,20 +20,29 @@ drain_all xs k live h l =
     let none : live - k ≡ 0 = omega arith in
     rw (gone, none)
 
-pub drain_none : (xs : List ℕ) (live : ℕ) → drain_carry 0 live xs ≡ xs
-drain_none xs live = rw sub-zero (take-append-drop live xs)
-
 -- the part of a front is the front of the part
 pub drop_take : (n k : ℕ) (l : List ℕ) → drop n (take (n + k) l) ≡ take k (drop n l)
 drop_take zero k l = rw zero-add
 drop_take (suc n) k [] = simp take-nil
 drop_take (suc n) k (x ∷ l) = rw suc-add (drop_take n k l)
 
-pub drain_ends : (xs : List ℕ) (k live : ℕ) → k ≤ live → take (live - k) (drop k xs) ++ drop (live - k) xs ≡ drain_carry k live xs
+pub drain_ends : (xs : List ℕ) (k live : ℕ) → k ≤ live → copy_within xs k live 0 ≡ drain_carry k live xs
 drain_ends xs k live h =
     let e : live ≡ k + (live - k) = omega arith in
     let d : drop k (take live xs) ≡ take (live - k) (drop k xs) = ap (λ (n : ℕ). drop k (take n xs)) e ∙ drop_take k (live - k) xs in
-    rw d
+    rw (d, zero-add)
+
+-- ---- a copy
+
+-- a write of n elements to the part of d that starts at `at`
+pub write_is : (at k : ℕ) (d xs : List ℕ) (n : ℕ) → n ≡ k → n ≡ length xs → put_mid at k d xs ≡ paste d at xs n
+write_is at k d xs n h e = put_mid-paste at k d xs xs n refl h e
+
+-- a copy of i elements goes on by one more
+pub copy_goes_on : (d : List ℕ) (at : ℕ) (s : List ℕ) (i n : ℕ) → i < length (take n s) → n ≤ length s → at + n ≤ length d → set (paste d at s i) (at + i) (get_or (take n s) i 0) ≡ paste d at s (i + 1)
+copy_goes_on d at s i n more hs hd =
+    let less : i < n = omega (arith, more, length-take-le n s hs) in
+    rw (add-one, get_or-take n s i 0 less) (paste-suc d at s i 0 (omega arith) (omega arith))
 
 -- ---- a copy of i elements, and over it the block of `size` elements that starts at j
 

@@ -10,6 +10,7 @@ const BLOCK: usize = 32;
 
 // Drains the carry by k, and answers how many bytes are then live: byte i becomes old byte k + i for i < live - k, and all
 // other bytes stay. Where k is 0, or all of live, no byte is written.
+#[tactic(auto, using(crate::proofs::Laws::drain_all, crate::proofs::Laws::drain_ends))]
 pub fn drain(carry: &mut [u8], live: usize, k: usize) -> usize
     requires { live ≤ length carry.old }
     ensures value { result ≡ live - k }
@@ -21,17 +22,13 @@ pub fn drain(carry: &mut [u8], live: usize, k: usize) -> usize
     if k == 0 {
         return live;
     }
-    let left = live - k;
-    let mut i = 0;
-    while i < left {
-        carry[i] = carry[k + i];
-        i += 1;
-    }
-    left
+    carry.copy_within(k..live, 0);
+    live - k
 }
 
 // Copies the first n bytes of `from` behind the first `live` bytes; all other bytes stay. Answers how many are then live.
 // Where n is a block or more, it copies block by block.
+// Tried: copy_from_slice of all n bytes calls C's memmove, and takes 51 instructions for 64 bytes, blocks 37.
 pub fn extend(carry: &mut [u8], live: usize, from: &[u8], n: usize) -> usize
     requires { (live + n ≤ length carry.old) × (n ≤ length from.now) }
     ensures value { result ≡ live + n }
@@ -39,26 +36,26 @@ pub fn extend(carry: &mut [u8], live: usize, from: &[u8], n: usize) -> usize
 {
     if n < BLOCK {
         extend_by_bytes(carry, live, from, n);
-        return live + n;
+    } else {
+        extend_by_blocks(carry, live, from, n);
     }
-    extend_by_blocks(carry, live, from, n);
     live + n
 }
 
 // The copy of `extend`, byte by byte.
+#[tactic(auto, using(crate::proofs::Laws::copy_goes_on))]
 fn extend_by_bytes(carry: &mut [u8], live: usize, from: &[u8], n: usize)
     requires { (live + n ≤ length carry.old) × (n ≤ length from.now) }
     ensures { carry.new ≡ paste carry.old live from.now n }
 {
-    let mut i = 0;
-    while i < n {
-        carry[live + i] = from[i];
-        i += 1;
+    for (i, byte) in from[..n].iter().enumerate() {
+        carry[live + i] = *byte;
     }
 }
 
 // The copy of `extend` block by block, for n of a block or more: the last block ends at n, and may copy again bytes that
 // the one before it has copied.
+// Tried: for copied in (0..n).step_by(BLOCK) is unrolled by the compiler, and takes 46 instructions for 64 bytes, this 37.
 fn extend_by_blocks(carry: &mut [u8], live: usize, from: &[u8], n: usize)
     requires { (live + n ≤ length carry.old) × ((n ≤ length from.now) × (32 ≤ n)) }
     ensures { carry.new ≡ paste carry.old live from.now n }
@@ -66,12 +63,8 @@ fn extend_by_blocks(carry: &mut [u8], live: usize, from: &[u8], n: usize)
     let last = n - BLOCK;
     let mut copied = 0;
     while copied < n {
-        let mut start = copied;
-        if last < copied {
-            start = last;
-        }
-        let block = block_at(from, start);
-        put_block(carry, live + start, block);
+        let start = copied.min(last);
+        put_block(carry, live + start, block_at(from, start));
         copied = start + BLOCK;
     }
 }
@@ -81,23 +74,14 @@ fn block_at(from: &[u8], i: usize) -> [u8; BLOCK]
     requires { i + 32 ≤ length from.now }
     ensures { result ≡ take 32 (drop i from.now) }
 {
-    let mut block = [0; BLOCK];
-    let mut j = 0;
-    while j < BLOCK {
-        block[j] = from[i + j];
-        j += 1;
-    }
-    block
+    *from[i..i + BLOCK].as_array().unwrap()
 }
 
 // Writes the block to the carry from byte `at` on; all other bytes stay.
+#[tactic(auto, using(crate::proofs::Laws::write_is))]
 fn put_block(carry: &mut [u8], at: usize, block: [u8; BLOCK])
     requires { at + 32 ≤ length carry.old }
     ensures { carry.new ≡ paste carry.old at block 32 }
 {
-    let mut j = 0;
-    while j < BLOCK {
-        carry[at + j] = block[j];
-        j += 1;
-    }
+    carry[at..at + BLOCK].copy_from_slice(&block);
 }

@@ -1,16 +1,29 @@
 // What came back beside what is recorded.
 #![tactic(auto)]
 
-ghost use Rattle.std.specs.Prelude.{◌≡◌, length};
+ghost use Rattle.std.specs.Prelude.{◌≡◌, true, Some, length};
 ghost use Rattle.compare.specs.Compare.{Tells, Both};
+ghost use Rattle.compare.specs.Text.{part_text, difference_text};
 
-use records::wide;
+use std::fmt;
 
 #[derive(Clone, Copy)]
 pub enum Part {
     Out,
     State,
     Carry,
+}
+
+impl fmt::Display for Part {
+    ghost output = { λ part. Some (part_text part) };
+
+    fn fmt<W: fmt::Write>(&self, f: &mut fmt::Formatter<W>) -> fmt::Result {
+        match self {
+            Part::Out => write!(f, "out word"),
+            Part::State => write!(f, "state word"),
+            Part::Carry => write!(f, "carry byte"),
+        }
+    }
 }
 
 // A word or byte that differs: which one of its part, what it is and what is recorded.
@@ -22,74 +35,62 @@ pub struct Difference {
     pub recorded: u64,
 }
 
-#[derive(Clone, Copy)]
-pub enum Outcome {
-    Same,
-    Differs(Difference),
+impl fmt::Display for Difference {
+    ghost output = { λ difference. Some (difference_text difference) };
+
+    fn fmt<W: fmt::Write>(&self, f: &mut fmt::Formatter<W>) -> fmt::Result {
+        let Difference {
+            part,
+            at,
+            is,
+            recorded,
+        } = *self;
+        write!(f, "{part} {at} is {is}, recorded {recorded}")
+    }
 }
 
-// The first word that differs, of lists of one length.
-fn words(part: Part, got: &[u64], recorded: &[u64]) -> Outcome
-    requires { length got.now ≡ length recorded.now }
+// The first item that differs, of lists of one length. Of an item, equal is the same.
+fn items<T: Copy + Eq + Into<u64>>(part: Part, got: &[T], recorded: &[T]) -> Result<(), Difference>
+    requires same { (x y : T) → T.eq x y ≡ true → x ≡ y }
+    requires one_length { length got.now ≡ length recorded.now }
     ensures { Tells result got.now recorded.now }
 {
-    let mut i = 0;
-    while i < got.len() {
-        let is = got[i];
-        let told = recorded[i];
+    for (at, (&is, &told)) in got.iter().zip(recorded).enumerate() {
         if is != told {
-            return Outcome::Differs(Difference {
+            return Err(Difference {
                 part,
-                at: i,
-                is,
-                recorded: told,
+                at,
+                is: is.into(),
+                recorded: told.into(),
             });
         }
-        i += 1;
     }
-    Outcome::Same
+    Ok(())
 }
 
-pub fn out(got: &[u64; 16], recorded: &[u64; 16]) -> Outcome
+pub fn out(got: &[u64; 16], recorded: &[u64; 16]) -> Result<(), Difference>
     ensures { Tells result got.now recorded.now }
 {
-    words(Part::Out, got, recorded)
+    items(Part::Out, got, recorded)
 }
 
-pub fn state(got: &[u64; 24], recorded: &[u64; 24]) -> Outcome
+pub fn state(got: &[u64; 24], recorded: &[u64; 24]) -> Result<(), Difference>
     ensures { Tells result got.now recorded.now }
 {
-    words(Part::State, got, recorded)
+    items(Part::State, got, recorded)
 }
 
 // The first byte of the carry that differs.
-pub fn carry(got: &[u8], recorded: &[u8]) -> Outcome
+pub fn carry(got: &[u8], recorded: &[u8]) -> Result<(), Difference>
     requires { length got.now ≡ length recorded.now }
     ensures { Tells result got.now recorded.now }
 {
-    let mut i = 0;
-    while i < got.len() {
-        let is = got[i];
-        let told = recorded[i];
-        if is != told {
-            return Outcome::Differs(Difference {
-                part: Part::Carry,
-                at: i,
-                is: wide(is),
-                recorded: wide(told),
-            });
-        }
-        i += 1;
-    }
-    Outcome::Same
+    items(Part::Carry, got, recorded)
 }
 
 // Of two outcomes the first that differs.
-pub fn first(one: Outcome, other: Outcome) -> Outcome
+pub fn first(one: Result<(), Difference>, other: Result<(), Difference>) -> Result<(), Difference>
     ensures { Both result one other }
 {
-    match one {
-        Outcome::Same => other,
-        Outcome::Differs(_) => one,
-    }
+    one.and(other)
 }

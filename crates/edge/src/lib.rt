@@ -14,15 +14,14 @@ fn put(why: &io::Error, text: &mut [u8]) -> usize
 {
     let mut out = Cursor::new(&mut text[..]);
     let _ = write!(out, "{why}");
-    let end = out.position() as usize;
-    let end = end.min(text.len());
+    let end = (out.position() as usize).min(text.len());
     if why.raw_os_error().is_none() {
         return end;
     }
-    match text[..end].iter().rposition(|&b| b == b'(') {
-        Some(at) => at.saturating_sub(1),
-        None => end,
-    }
+    text[..end]
+        .iter()
+        .rposition(|&b| b == b'(')
+        .map_or(end, |at| at.saturating_sub(1))
 }
 
 // Says on standard error what failed, and why. A name that is no text is told as `escape_ascii` writes it.

@@ -2,7 +2,7 @@
 // room. C is 16,384.
 #![tactic(auto)]
 
-ghost use Rattle.std.specs.Prelude.{◌≡◌, true, ◌≤◌};
+ghost use Rattle.std.specs.Prelude.{◌≡◌, true, ◌≤◌, ◌↔◌};
 ghost use Rattle.frames.specs.Words.{next_of, number_of, mode_of, max_at, parity_word};
 
 use std::env::FillError;
@@ -18,77 +18,66 @@ const ENAMETOOLONG: i32 = 36;
 
 const EILSEQ: i32 = 84;
 
-// The number that a word says, if it says one.
-#[derive(Clone, Copy)]
-enum Number {
-    Is(u16),
-    No,
-}
+const HELP: &str = "frames MODE [parity] MAX FILE: a line for each frame of a capture
 
-// The mode that a number names, if it names one.
-#[derive(Clone, Copy)]
-enum Choice {
-    Of(Mode),
-    None,
-}
+  MODE    1: UBX. 2: UBX and RTCM. 3: UBX, RTCM and NMEA
+  parity  RTCM frames are read with their parity, and checked by it; without, they end before it
+  MAX     0 to 65535: a UBX frame whose payload is longer is passed over silently
+  FILE    the capture; - is standard input
+
+  at P ubx CC II len N           a UBX frame at byte P: class, id, payload length
+  at P rtcm len N                an RTCM frame, N its message's length
+  at P nmea len N                a sentence, N its length with CR LF
+  at P sum expect XXXX got XXXX ubx CC II len N
+                                 a UBX frame whose sum is wrong: the sum received, the sum computed
+  at P parity expect XXXXXX got XXXXXX
+                                 an RTCM frame whose parity is wrong: the parity received, the parity computed
+  at P room N                    N bytes that the carry's 16384 do not hold
+
+The first line has mode, setting, MAX and the carry's length; the last the bytes used, kept and lost.
+";
 
 // The number with one more digit: no digit, or a number over 65,535, is none.
-fn next(n: u16, d: u8) -> Number
+#[tactic(auto, unfolding(crate::specs::Words::next_of, window::specs::Pick::pick))]
+fn next(n: u16, d: u8) -> Option<u16>
     ensures { result ≡ next_of n d }
 {
-    if d < b'0' {
-        return Number::No;
+    if !d.is_ascii_digit() {
+        return None;
     }
-    if b'9' < d {
-        return Number::No;
-    }
-    let m = 10 * (n as u32) + (d - b'0') as u32;
-    if 65535 < m {
-        return Number::No;
-    }
-    Number::Is(m as u16)
+    n.checked_mul(10)?.checked_add(u16::from(d - b'0'))
 }
 
 // A number from 0 to 65,535 in decimal digits.
-fn read_number(s: &[u8]) -> Number
+#[tactic(auto, using(crate::proofs::Laws::none_stays, crate::proofs::Laws::one_more, crate::proofs::Laws::at_end))]
+fn read_number(s: &[u8]) -> Option<u16>
     ensures { result ≡ number_of s.now }
 {
-    if s.len() == 0 {
-        return Number::No;
+    if s.is_empty() {
+        return None;
     }
-    let mut n: u16 = 0;
-    let mut i = 0;
-    while i < s.len() {
-        let Number::Is(m) = next(n, s[i]) else {
-            return Number::No;
-        };
-        n = m;
-        i += 1;
+    let mut n = 0;
+    for d in s {
+        n = next(n, *d)?;
     }
-    Number::Is(n)
+    Some(n)
 }
 
-fn mode_of(number: Number, parity: bool) -> Choice
+#[tactic(auto, unfolding(window::specs::Pick::pick))]
+fn mode_of(number: Option<u16>, parity: bool) -> Option<Mode>
     ensures { result ≡ mode_of number parity }
 {
-    let Number::Is(n) = number else {
-        return Choice::None;
-    };
-    if n == 1 {
-        return Choice::Of(Mode::One(parity));
+    match number? {
+        1 => Some(Mode::One(parity)),
+        2 => Some(Mode::Two(parity)),
+        3 => Some(Mode::Three(parity)),
+        _ => None,
     }
-    if n == 2 {
-        return Choice::Of(Mode::Two(parity));
-    }
-    if n == 3 {
-        return Choice::Of(Mode::Three(parity));
-    }
-    Choice::None
 }
 
 // Whether a word is the one that has RTCM frames read with parity.
 fn is_parity(s: &[u8]) -> bool
-    ensures { (result ≡ true → s.now ≡ parity_word) × (s.now ≡ parity_word → result ≡ true) }
+    ensures { (result ≡ true) ↔ (s.now ≡ parity_word) }
 {
     s == b"parity".as_slice()
 }
@@ -102,15 +91,14 @@ fn max_at(parity: bool) -> usize
 }
 
 // The number that an argument says. One that is missing, or longer than any number here, says none.
-fn word(rt: &impl Env, i: usize) -> Number {
+fn word(rt: &impl Env, i: usize) -> Option<u16> {
     let mut text = [0u8; 16];
-    match rt.arg(i, &mut text) {
-        Ok(n) => read_number(&text[..n]),
-        Err(_) => Number::No,
-    }
+    let n = rt.arg(i, &mut text).ok()?;
+    read_number(&text[..n])
 }
 
-// Whether the second argument is the word `parity`.
+// Whether the second argument is the word `parity`. It is not one function with is_help: a test passed as a closure needs a
+// `requires` that it can always be called, and a type parameter for that.
 fn has_parity(rt: &impl Env) -> bool {
     let mut text = [0u8; 16];
     match rt.arg(2, &mut text) {
@@ -133,63 +121,8 @@ fn is_given(rt: &impl Env, i: usize) -> bool {
     !matches!(rt.arg(i, &mut text), Err(FillError::NotPresent))
 }
 
-fn say(rt: &impl Print, line: &str) {
-    let _ = rt.print(line);
-}
-
 fn help(rt: &impl Print) {
-    say(
-        rt,
-        "frames MODE [parity] MAX FILE: a line for each frame of a capture\n\n",
-    );
-    say(
-        rt,
-        "  MODE    1: UBX. 2: UBX and RTCM. 3: UBX, RTCM and NMEA\n",
-    );
-    say(
-        rt,
-        "  parity  RTCM frames are read with their parity, and checked by it; without, they end before it\n",
-    );
-    say(
-        rt,
-        "  MAX     0 to 65535: a UBX frame whose payload is longer is passed over silently\n",
-    );
-    say(rt, "  FILE    the capture; - is standard input\n\n");
-    help_lines(rt);
-}
-
-// The lines, one by one.
-fn help_lines(rt: &impl Print) {
-    say(
-        rt,
-        "  at P ubx CC II len N           a UBX frame at byte P: class, id, payload length\n",
-    );
-    say(
-        rt,
-        "  at P rtcm len N                an RTCM frame, N its message's length\n",
-    );
-    say(
-        rt,
-        "  at P nmea len N                a sentence, N its length with CR LF\n",
-    );
-    say(rt, "  at P sum expect XXXX got XXXX ubx CC II len N\n");
-    say(
-        rt,
-        "                                 a UBX frame whose sum is wrong: the sum received, the sum computed\n",
-    );
-    say(rt, "  at P parity expect XXXXXX got XXXXXX\n");
-    say(
-        rt,
-        "                                 an RTCM frame whose parity is wrong: the parity received, the parity computed\n",
-    );
-    say(
-        rt,
-        "  at P room N                    N bytes that the carry's 16384 do not hold\n\n",
-    );
-    say(
-        rt,
-        "The first line has mode, setting, MAX and the carry's length; the last the bytes used, kept and lost.\n",
-    );
+    let _ = rt.print(HELP);
 }
 
 fn refuse(rt: &impl Eprint, why: &str) {
@@ -245,11 +178,11 @@ fn main(rt: HostRuntime) {
         );
         return;
     }
-    let Choice::Of(mode) = mode_of(word(&rt, 1), parity) else {
+    let Some(mode) = mode_of(word(&rt, 1), parity) else {
         refuse(&rt, "MODE is 1, 2 or 3");
         return;
     };
-    let Number::Is(max) = word(&rt, at) else {
+    let Some(max) = word(&rt, at) else {
         refuse(&rt, "MAX is 0 to 65535");
         return;
     };

@@ -1,3 +1,1 @@
-pub mod Laws
-pub mod Going
-pub mod Whole
+pub mod Spelled

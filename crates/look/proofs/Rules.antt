@@ -11,7 +11,6 @@ use borrow.Author.Tests.{leb-true, lt-ltb, le-ltb, eq-eqb, ne_eqb}
 use Rattle.std.specs.Prelude.{Option, None}
 use Rattle.sum.specs.declared.Sums.{Sums}
 use Rattle.sum.specs.Sum.{sum_of, pair_of}
-use Rattle.parity.specs.Parity.{parity_of, word_of}
 use Rattle.window.specs.declared.Mode.{Mode}
 use Rattle.window.specs.Pick.{pick}
 use Rattle.window.proofs.Pick.{pick_true}
@@ -20,7 +19,7 @@ use Rattle.window.specs.EndMark.{end_mark}
 use Rattle.claim.specs.declared.Kind.{Kind, TheVariants.{Ubx, Rtcm, Sentence}}
 use Rattle.claim.specs.declared.Verdict.TheVariants.{Wait, Hand}
 use Rattle.claim.specs.Sizes.{skip, size, back}
-use Rattle.claim.specs.Verdicts.{can_hand, judge_sum, judge_parity, lacks}
+use Rattle.claim.specs.Verdicts.{can_hand, judge_sum, lacks}
 use Rattle.look.specs.declared.Why.TheVariants.{NoSync, NotPair, OverMax}
 use Rattle.look.specs.declared.Sight.TheVariants.{Pass, Say}
 use Rattle.look.specs.Rules.{need, pass, claim, look_ubx, look_rtcm, end_at, look_nmea, at_sync, look}
@@ -63,15 +62,6 @@ module _ (class id n a b : ℕ) (got : Sums) (W : List ℕ) (ea : a ≡ get_or W
 pub judge_bare : (n : ℕ) (W : List ℕ) → judge (Rtcm n false) W ≡ Hand (Rtcm n false)
 unfolding judge
 judge_bare n W = refl
-
-module _ (n high middle low : ℕ) (W : List ℕ)
-    (eh : high ≡ get_or W (n + 3) 0) (em : middle ≡ get_or W (n + 3 + 1) 0) (el : low ≡ get_or W (n + 3 + 2) 0) where
-  pub judge_parity_is : judge (Rtcm n true) W ≡ judge_parity (word_of high middle low) (parity_of (take (n + 3) W)) n
-  unfolding judge
-  judge_parity_is =
-      let m : n + 3 + 1 ≡ n + 4 = omega arith in
-      let l : n + 3 + 2 ≡ n + 5 = omega arith in
-      rw (eh, em, el, m, l)
 
 pub judge_sentence : (i : ℕ) (W : List ℕ) → judge (Sentence i) W ≡ Hand (Sentence i)
 unfolding judge

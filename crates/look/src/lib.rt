@@ -34,6 +34,7 @@ pub enum Sight {
 }
 
 // A whole UBX frame: its sum decides.
+#[tactic(auto, unfolding(crate::specs::Moves::judge))]
 pub fn ubx_judged(window: Window, head: UbxHead) -> Verdict
     requires { head.n + 8 ≤ width window }
     ensures { result ≡ judge (Ubx head.class head.id head.n) (bytes window.entry) }
@@ -87,6 +88,7 @@ fn at_ubx(max: u16, cap: usize, window: Window) -> Sight
 }
 
 // A whole RTCM frame with its parity: that decides.
+#[tactic(auto, unfolding(crate::specs::Moves::judge))]
 fn parity_checked(window: Window, n: usize) -> Verdict
     requires { n + 6 ≤ width window }
     ensures { result ≡ judge (Rtcm n true) (bytes window.entry) }
@@ -100,6 +102,7 @@ fn parity_checked(window: Window, n: usize) -> Verdict
 }
 
 // A whole RTCM frame, read with parity or as the crate reads it.
+#[tactic(auto, unfolding(crate::specs::Moves::judge))]
 fn rtcm_judged(window: Window, n: usize, parity: bool) -> Verdict
     requires { n + around parity ≤ width window }
     ensures { result ≡ judge (Rtcm n parity) (bytes window.entry) }

@@ -33,7 +33,7 @@ fn full_open(state: &mut [u64; 24], carry: &[u8], chunk: &[u8]) -> u64
     };
     let opened = opening::open(s, carry, chunk);
     match opened.leave {
-        Err(refusal) => words::refusal_no(refusal),
+        Err(refusal) => refusal.into(),
         Ok(()) => {
             words::write_opened(opened.state, state);
             0
@@ -107,7 +107,7 @@ fn full_close(state: &mut [u64; 24], carry: &mut [u8], chunk: &[u8], out: &mut [
     };
     let closed = opening::close(s, carry, chunk);
     match closed.leave {
-        Err(refusal) => words::write_report(out, words::refusal_no(refusal), 0, 0, 0),
+        Err(refusal) => words::write_report(out, refusal.into(), 0, 0, 0),
         Ok(()) => {
             words::write_closed(closed.kept, state);
             words::write_report(
@@ -121,7 +121,8 @@ fn full_close(state: &mut [u64; 24], carry: &mut [u8], chunk: &[u8], out: &mut [
     }
 }
 
-// Closes an open state, at once where that goes. Refusals 2, 4 and 6.
+// Closes an open state, at once where that goes. Refusals 2, 4 and 6. It has orgnevis_step's form and its own words, since C calls the two
+// apart.
 pub fn orgnevis_close(state: &mut [u64; 24], carry: &mut [u8], chunk: &[u8], out: &mut [u64; 16])
     ensures state_after { state.new ≡ (closes state.old carry.old chunk.now).words }
     ensures out_after { out.new ≡ (closes state.old carry.old chunk.now).out }

@@ -9,9 +9,8 @@ use lib.Seq.{drop-cons}
 use lib.Dec.{lit<}
 use lib.Arith.{mod-mul}
 use lib.Pow.{split, shr_lt, shl-shr}
-use lib.Bits.{bit_xor, bit_and, xor_zero_r, xor_comm, xor_lt, xor_shifted, and_mask}
+use lib.Bits.{bit_xor, bit_and, xor_zero_r, xor_comm, xor_assoc, xor_lt, xor_shifted, and_mask}
 use Rattle.parity.specs.Parity.{bits, bits_of, reduce, divide, parity_of, remainders, parity_on}
-use Rattle.parity.proofs.Xor.{xor_assoc}
 use Rattle.parity.proofs.Entries.{entry}
 use Rattle.parity.proofs.Division.{bits_append, bits_zeros, bits_are, divide_append, divide_lt, divide_xor, divide_add, divide_bits}
 
@@ -54,8 +53,8 @@ on_end : (from : ℕ) → parity_on from [] ≡ from % 2 ^ 24
 unfolding bits_of parity_of divide reduce
 on_end from = on_is from [] ∙ xor_zero_r (from % 2 ^ 24)
 
-pub on_none : (from : ℕ) (l : List ℕ) → length l ≡ 0 → bit_and from 0xFFFFFF ≡ parity_on from l
-on_none from [] h = and_mask from 24 ∙ sym (on_end from)
+pub on_none : (from : ℕ) (l : List ℕ) → length l ≡ 0 → parity_on from l ≡ bit_and from 0xFFFFFF
+on_none from [] h = on_end from ∙ sym (and_mask from 24)
 on_none from (x ∷ l) h = absurd (omega arith)
 
 -- the low 24 bits count
@@ -129,11 +128,11 @@ past_16 : (r : ℕ) → r < 2 ^ 8 → past 16 r ≡ r * 2 ^ 16
 unfolding bits
 past_16 r h = divide_bits 16 0 r (omega arith) ∙ add-zero (r * 2 ^ 16)
 
-pub top_lt : {crc : ℕ} → crc < 2 ^ 24 → crc / 2 ^ 16 < 2 ^ 8
+top_lt : {crc : ℕ} → crc < 2 ^ 24 → crc / 2 ^ 16 < 2 ^ 8
 top_lt low = shr_lt 8 16 low
 
 module _ (crc x : ℕ) (low : crc < 2 ^ 24) (byte : x < 2 ^ 8) where
-  pub index_lt : bit_xor (crc / 2 ^ 16) x < 2 ^ 8
+  index_lt : bit_xor (crc / 2 ^ 16) x < 2 ^ 8
   index_lt = xor_lt 8 (crc / 2 ^ 16) x (top_lt low) byte
 
   -- eight bits on: the top byte's remainder, and the rest eight places higher

@@ -7,9 +7,9 @@ use native.Mathlib.Omega.{arith}
 use mathlib.Core.List.{List, [], ◌∷◌, ◌++◌}
 use lib.ListN.{length, replicate}
 use lib.Dec.{lit<}
-use lib.Bits.{bit_xor, xor_shr, xor_self, xor_zero_r, xor_lt}
+use lib.Bits.{bit_xor, xor_shr, xor_self, xor_zero_r, xor_assoc, xor_lt}
 use Rattle.parity.specs.Parity.{generator, bits_of, reduce, divide, parity_of, add_to}
-use Rattle.parity.proofs.Xor.{xor_assoc, xor_four, xor_down}
+use Rattle.parity.proofs.Xor.{xor_four, xor_down}
 use Rattle.parity.proofs.Division.{Bits, none, bit, bits_append, bits_zeros, bits_are, times, top_bit, reduce_lt, divide_lt}
 
 -- bits as one number, behind what stands before them

@@ -16,10 +16,11 @@ pub fn new() -> u32
 }
 
 // The parity runs on over the bytes. Of `from` the low 24 bits count. For no bytes the table is not set up.
+#[tactic(auto, using(crate::proofs::Laws::on_none))]
 pub fn update(from: u32, bytes: &[u8]) -> u32
     ensures { result ≡ parity_on from bytes.now }
 {
-    if bytes.len() == 0 {
+    if bytes.is_empty() {
         return from & 0xFFFFFF;
     }
     run(&TABLE, from, bytes)
@@ -31,11 +32,9 @@ fn run(table: &[u32; 256], from: u32, bytes: &[u8]) -> u32
     ensures { result ≡ parity_on from bytes.now }
 {
     let mut crc = from & 0xFFFFFF;
-    let mut i = 0;
-    while i < bytes.len() {
-        let top = ((crc >> 16) as u8) ^ bytes[i];
+    for byte in bytes {
+        let top = ((crc >> 16) as u8) ^ *byte;
         crc = ((crc << 8) & 0xFFFFFF) ^ table[top as usize];
-        i += 1;
     }
     crc
 }
@@ -44,5 +43,5 @@ fn run(table: &[u32; 256], from: u32, bytes: &[u8]) -> u32
 pub fn word(a: u8, b: u8, c: u8) -> u32
     ensures { result ≡ word_of a b c }
 {
-    (a as u32) * 65536 + (b as u32) * 256 + (c as u32)
+    u32::from_be_bytes([0, a, b, c])
 }

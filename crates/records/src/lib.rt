@@ -13,6 +13,8 @@
 ghost use Rattle.std.specs.Prelude.{◌≡◌, ◌+◌, ◌≤◌};
 ghost use Rattle.records.specs.Words.{state_of, out_of};
 
+use std::array;
+
 // calls.bin, refusals.bin.
 #[derive(Clone, Copy)]
 pub enum List {
@@ -20,11 +22,23 @@ pub enum List {
     Refusals,
 }
 
-// The bytes of a record that say a word: width from at on. Width is 0 for a word that the list hasn't got.
+// The bytes of a record's head that say a word: width from at on. Width is 0 for a word that the list hasn't got.
 #[derive(Clone, Copy)]
 struct Field {
     at: usize,
     width: usize,
+    ghost in_head: { at + width ≤ 256 },
+}
+
+impl Field {
+    // The number in these bytes, little-endian.
+    fn number(self, head: &[u8; 256]) -> u64 {
+        let bytes = &head[self.at..self.at + self.width];
+        bytes
+            .iter()
+            .rev()
+            .fold(0, |n, byte| (n << 8) | u64::from(*byte))
+    }
 }
 
 // The bytes of a record before those of carry and chunk.
@@ -66,9 +80,7 @@ fn field_of_call(i: usize) -> Field
     }
 }
 
-fn field_of_refusal(i: usize) -> Field
-    ensures { result.at + result.width ≤ 256 }
-{
+fn field_of_refusal(i: usize) -> Field {
     if i < 32 {
         Field {
             at: i * 8,
@@ -79,46 +91,16 @@ fn field_of_refusal(i: usize) -> Field
     }
 }
 
-fn field_at(list: List, i: usize) -> Field
-    ensures { result.at + result.width ≤ 256 }
-{
+fn field_at(list: List, i: usize) -> Field {
     match list {
         List::Calls => field_of_call(i),
         List::Refusals => field_of_refusal(i),
     }
 }
 
-pub fn wide(x: u8) -> u64 {
-    x as u64
-}
-
-// The number in width bytes from at on, little-endian.
-fn number(head: &[u8; 256], at: usize, width: usize) -> u64
-    requires { at + width ≤ 256 }
-{
-    let mut n: u64 = 0;
-    let mut i = width;
-    while 0 < i {
-        i -= 1;
-        n = (n << 8) | wide(head[at + i]);
-    }
-    n
-}
-
 // The words that a record's head says.
 pub fn words(list: List, head: &[u8; 256]) -> [u64; 34] {
-    let mut words = [0u64; 34];
-    let mut i = 0;
-    while i < 34 {
-        let f = field_at(list, i);
-        words[i] = number(head, f.at, f.width);
-        i += 1;
-    }
-    words
-}
-
-pub fn plus(a: u64, b: u64) -> u64 {
-    std::num::wrapping_add_u64(a, b)
+    array::from_fn(|i| field_at(list, i).number(head))
 }
 
 // Whether a byte of the carry changes.
@@ -129,50 +111,29 @@ pub fn changes(words: &[u64; 34]) -> bool {
 // Whether as many bytes follow the length word as carry and chunk have, and the carry once more if it changes. A record
 // of refusals.bin doesn't say.
 pub fn agrees(list: List, words: &[u64; 34]) -> bool {
-    let changes = words[32];
-    let plain = plus(64, plus(words[1], words[2]));
-    match list {
-        List::Refusals => true,
-        List::Calls => match changes {
-            0 => words[33] == plain,
-            1 => words[33] == plus(plain, words[1]),
-            _ => false,
-        },
+    let plain = words[1].wrapping_add(words[2]).wrapping_add(64);
+    match (list, words[32]) {
+        (List::Refusals, _) => true,
+        (List::Calls, 0) => words[33] == plain,
+        (List::Calls, 1) => words[33] == plain.wrapping_add(words[1]),
+        (List::Calls, _) => false,
     }
 }
 
-// A state's words: 0 to 8 are the record's from word n on. The record hasn't got words 9 to 23: these are put there
-// before, and are to be there after.
+// Words 9 to 23 of a state, which the record hasn't got: they are put there before, and are to be there after.
+const KEPT: [u64; 15] = [
+    109, 110, 111, 112, 113, 114, 115, 116, 117, 118, 119, 120, 121, 122, 123,
+];
+
+// A state's words: 0 to 8 are the record's from word n on.
 fn state(words: &[u64; 34], n: usize) -> [u64; 24]
     requires { n ≤ 25 }
     ensures { result ≡ state_of words.now n }
 {
-    [
-        words[n],
-        words[n + 1],
-        words[n + 2],
-        words[n + 3],
-        words[n + 4],
-        words[n + 5],
-        words[n + 6],
-        words[n + 7],
-        words[n + 8],
-        109,
-        110,
-        111,
-        112,
-        113,
-        114,
-        115,
-        116,
-        117,
-        118,
-        119,
-        120,
-        121,
-        122,
-        123,
-    ]
+    let mut state = [0; 24];
+    state[..9].copy_from_slice(&words[n..n + 9]);
+    state[9..].copy_from_slice(&KEPT);
+    state
 }
 
 pub fn state_before(words: &[u64; 34]) -> [u64; 24]
@@ -191,8 +152,7 @@ pub fn state_after(words: &[u64; 34]) -> [u64; 24]
 pub fn out(words: &[u64; 34]) -> [u64; 16]
     ensures { result ≡ out_of words.now }
 {
-    [
-        words[24], words[25], words[26], words[27], words[28], words[29], words[30], words[31], 0,
-        0, 0, 0, 0, 0, 0, 0,
-    ]
+    let mut out = [0; 16];
+    out[..8].copy_from_slice(&words[24..32]);
+    out
 }

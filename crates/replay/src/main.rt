@@ -7,10 +7,9 @@ mod report;
 
 ghost use Rattle.std.specs.Prelude.{◌≡◌, ◌≤◌, length};
 
-use calls::Call;
 use records::List;
-use replaying::Turn;
-use report::Run;
+use replaying::{Trouble, Turn};
+use report::Tally;
 use std::fs;
 use std::io::Read;
 use std::rt::Files;
@@ -21,7 +20,15 @@ const LONGEST: usize = 16385;
 // Every byte of the carries and chunks of refusals.bin.
 const FILLER: u8 = 0x55;
 
-// Reads until `to` is full, the file ends or a read fails: how many bytes that gave.
+// Where a record's carry and chunk are, and the carry that is recorded.
+#[derive(Drop)]
+struct Memory {
+    carry: [u8; LONGEST],
+    chunk: [u8; LONGEST],
+    recorded: [u8; LONGEST],
+}
+
+// Reads until `to` is full, the file ends or a read fails: how many bytes that gave, which `read_exact` doesn't say.
 fn read_full(file: &mut impl Read, to: &mut [u8]) -> usize
     ensures { result ≤ length to.new }
 {
@@ -35,25 +42,17 @@ fn read_full(file: &mut impl Read, to: &mut [u8]) -> usize
     got
 }
 
-// Reads a list's next bytes into a carry or chunk: whether there are so many. Those of refusals.bin are not in the file:
-// they are in memory from the beginning and stay there.
-fn filled(file: &mut impl Read, list: List, to: &mut [u8]) -> bool {
+// Reads a list's next bytes into a carry or chunk. Those of refusals.bin are not in the file: they are in memory from the
+// beginning and stay there.
+fn fill(file: &mut impl Read, list: List, to: &mut [u8]) -> Result<(), Trouble> {
     match list {
-        List::Calls => read_full(file, to) == to.len(),
-        List::Refusals => true,
+        List::Calls if read_full(file, to) < to.len() => Err(Trouble::Short),
+        List::Calls | List::Refusals => Ok(()),
     }
 }
 
-// The same for the carry after, which the list has where a byte of the carry changes.
-fn filled_after(file: &mut impl Read, list: List, words: &[u64; 34], to: &mut [u8]) -> bool {
-    if records::changes(words) {
-        filled(file, list, to)
-    } else {
-        true
-    }
-}
-
-// Reads the bytes behind a record's head and replays it. `recorded` has the carry before, then the carry after.
+// Reads the bytes behind a record's head and replays it. `recorded` has the carry before, then the carry after, which the
+// list has where a byte of the carry changes.
 fn replay_rest(
     file: &mut impl Read,
     list: List,
@@ -64,24 +63,17 @@ fn replay_rest(
 ) -> Turn
     requires { length carry.old ≡ length recorded.old }
 {
-    let call = calls::of(words);
-    if let Call::NoCall = call {
-        return Turn::Bad;
-    }
-    if !filled(file, list, recorded) {
-        return Turn::Short;
-    }
+    let call = calls::of(words).ok_or(Trouble::Bad)?;
+    fill(file, list, recorded)?;
     carry.copy_from_slice(recorded);
-    if !filled(file, list, chunk) {
-        return Turn::Short;
-    }
-    if !filled_after(file, list, words, recorded) {
-        return Turn::Short;
+    fill(file, list, chunk)?;
+    if records::changes(words) {
+        fill(file, list, recorded)?;
     }
     replaying::replay(call, words, carry, chunk, recorded)
 }
 
-// Replays the record of a head, in memory for a carry, a chunk and the carry that is recorded.
+// Replays the record of a head. The three are no `Memory` here: slices of fields behind one `&mut` get no proof.
 fn replay_record(
     file: &mut impl Read,
     list: List,
@@ -92,17 +84,9 @@ fn replay_record(
 ) -> Turn {
     let c = words[1] as usize;
     let k = words[2] as usize;
-    if carry.len() < c {
-        return Turn::Bad;
-    }
-    if recorded.len() < c {
-        return Turn::Bad;
-    }
-    if chunk.len() < k {
-        return Turn::Bad;
-    }
-    if !records::agrees(list, words) {
-        return Turn::Bad;
+    let has_room = c <= carry.len() && k <= chunk.len() && c <= recorded.len();
+    if !has_room || !records::agrees(list, words) {
+        return Err(Trouble::Bad);
     }
     replay_rest(
         file,
@@ -115,61 +99,56 @@ fn replay_record(
 }
 
 // Reads the head of a list's next record and replays it.
-fn replay_next(
-    file: &mut impl Read,
-    list: List,
-    carry: &mut [u8],
-    chunk: &mut [u8],
-    recorded: &mut [u8],
-) -> Turn {
-    let mut head = [0u8; 256];
+fn replay_next(file: &mut impl Read, list: List, memory: &mut Memory) -> Turn {
+    let mut head = [0; 256];
     let size = records::head_size(list);
     let got = read_full(file, &mut head[..size]);
     if got == 0 {
-        return Turn::End;
+        return Ok(None);
     }
     if got < size {
-        return Turn::Short;
+        return Err(Trouble::Short);
     }
     let words = records::words(list, &head);
+    let Memory {
+        carry,
+        chunk,
+        recorded,
+    } = memory;
     replay_record(file, list, &words, carry, chunk, recorded)
 }
 
-// Replays a list up to the first turn that isn't the same. Nothing says that a file ends: the turns are counted, up to a number
-// that no list comes to.
+// Replays a list up to its end or the first trouble, and counts the calls that did as recorded. Nothing says that a file
+// ends: the turns are counted, up to a number that no list comes to.
 fn replay_all(
     file: &mut impl Read,
     list: List,
-    carry: &mut [u8],
-    chunk: &mut [u8],
-    recorded: &mut [u8],
-) -> Run {
-    let mut tally = report::none();
+    memory: &mut Memory,
+    tally: &mut Tally,
+) -> Result<(), Trouble> {
     for _ in 0..u64::MAX {
-        let turn = replay_next(file, list, carry, chunk, recorded);
-        match turn {
-            Turn::Same(call) => tally = report::counted(tally, call),
-            _ => return Run { tally, last: turn },
+        match replay_next(file, list, memory)? {
+            Some(call) => tally.count(call),
+            None => return Ok(()),
         }
     }
-    Run {
-        tally,
-        last: Turn::Bad,
-    }
+    Err(Trouble::Bad)
 }
 
 // Replays the list of that name: whether it came to the list's end.
 fn replay_list(rt: &(impl Files + Print), name: &str, list: List) -> bool {
     let Ok(mut file) = fs::open(rt, name) else {
-        report::say(rt, name);
-        report::say(rt, ": can't be opened\n");
+        let _ = println!(rt; "{name}: can't be opened");
         return false;
     };
-    let mut carry = [FILLER; LONGEST];
-    let mut chunk = [FILLER; LONGEST];
-    let mut recorded = [FILLER; LONGEST];
-    let run = replay_all(&mut file, list, &mut carry, &mut chunk, &mut recorded);
-    report::say_run(rt, name, run)
+    let mut memory = Memory {
+        carry: [FILLER; LONGEST],
+        chunk: [FILLER; LONGEST],
+        recorded: [FILLER; LONGEST],
+    };
+    let mut tally = Tally::default();
+    let end = replay_all(&mut file, list, &mut memory, &mut tally);
+    report::say_run(rt, name, tally, end)
 }
 
 fn main(rt: HostRuntime) {

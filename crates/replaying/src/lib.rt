@@ -2,22 +2,36 @@
 // every byte of the carry.
 #![tactic(auto)]
 
-ghost use Rattle.std.specs.Prelude.{◌≡◌, length};
+ghost use Rattle.std.specs.Prelude.{◌≡◌, Some, length};
 ghost use Rattle.replaying.specs.Replayed.{Replayed};
+ghost use Rattle.replaying.specs.Text.{trouble_text};
 
 use calls::Call;
-use compare::{Difference, Outcome};
+use compare::Difference;
+use std::fmt;
 
-// What came of a list's next record: its call did as recorded, or not; the list has no more, or not a whole one, or
-// bytes that are no record's.
+// What a list's replay stops at: a call that didn't do as recorded, not a whole record, bytes that are no record's.
 #[derive(Clone, Copy)]
-pub enum Turn {
-    Same(Call),
+pub enum Trouble {
     Differs(Call, Difference),
-    End,
     Short,
     Bad,
 }
+
+impl fmt::Display for Trouble {
+    ghost output = { λ trouble. Some (trouble_text trouble) };
+
+    fn fmt<W: fmt::Write>(&self, f: &mut fmt::Formatter<W>) -> fmt::Result {
+        match self {
+            Trouble::Differs(call, difference) => write!(f, "differs: {call}, {difference}"),
+            Trouble::Short => write!(f, "is cut short"),
+            Trouble::Bad => write!(f, "is no record"),
+        }
+    }
+}
+
+// What came of a list's next record: a call that did as recorded, or none where the list has no more.
+pub type Turn = Result<Option<Call>, Trouble>;
 
 // Makes a record's call and compares.
 pub fn replay(
@@ -35,9 +49,8 @@ pub fn replay(
     let in_out = compare::out(&out, &records::out(words));
     let in_state = compare::state(&state, &records::state_after(words));
     let in_carry = compare::carry(carry, recorded);
-    let outcome = compare::first(in_out, compare::first(in_state, in_carry));
-    match outcome {
-        Outcome::Same => Turn::Same(call),
-        Outcome::Differs(difference) => Turn::Differs(call, difference),
-    }
+    compare::first(in_out, compare::first(in_state, in_carry)).map_err(
+        |difference| Trouble::Differs(call, difference),
+    )?;
+    Ok(Some(call))
 }

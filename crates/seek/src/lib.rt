@@ -1,5 +1,5 @@
-// The loop that passes what is to be passed in silence, until something is to be said: at the heads on one side of the window as
-// long as these tell, then at both sides; and what a head on one side claims, for a caller that tries it before the loop. Rust:
+// The loop that passes what is to be passed in silence, until something is to be said: it looks at the head on one side of the window
+// where that tells, else at both sides; and what a head on one side claims, for a caller that tries it before the loop. Rust:
 // parser.rs, the loops around the heads of the three iterators' `next`.
 #![tactic(auto)]
 

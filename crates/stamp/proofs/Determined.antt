@@ -3,11 +3,11 @@ use mathlib.Core.Path.{◌≡◌, refl, sym, ap, ◌∙◌}
 use mathlib.Core.List.{List, [], ◌∷◌}
 use Prim.Native.Nat.{ℕ}
 use lib.ListN.{get_or}
+use Rattle.std.specs.Prelude.{Option, None, Some, Result, Ok, Err}
 use Rattle.framer.proofs.Determined.{same_answer}
 use Rattle.stamp.specs.declared.Fault.{Fault, TheVariants.{NotThisMessage, NotValid, Field}}
-use Rattle.stamp.specs.declared.Reading.{Reading, TheVariants.{Stamp, BackBy, Refused}}
+use Rattle.stamp.specs.declared.Reading.{Reading, TheVariants.{Stamp, BackBy}}
 use Rattle.stamp.specs.declared.Heard.{Heard}
-use Rattle.stamp.specs.declared.Told.{Told, TheVariants.{Nothing, Frame}}
 use Rattle.stamp.specs.declared.Timed.{Timed}
 use Rattle.stamp.specs.Step.{TimedOut}
 use Rattle.stamp.specs.Promises.{fault_no, number, values, told_number, told_values, Reads, Times}
@@ -22,27 +22,27 @@ fault_back NotThisMessage = refl
 fault_back NotValid = refl
 fault_back Field = refl
 
-abbrev reading_by : ℕ → List ℕ → Reading
-reading_by n vs = let v = get_or vs 0 0 in get_or (Refused (fault_by v) ∷ Stamp v ∷ BackBy v ∷ []) n (Refused (fault_by v))
+abbrev reading_by : ℕ → List ℕ → Result Reading Fault
+reading_by n vs = let v = get_or vs 0 0 in get_or (Err (fault_by v) ∷ Ok (Stamp v) ∷ Ok (BackBy v) ∷ []) n (Err (fault_by v))
 
-reading_back : (r : Reading) → reading_by (number r) (values r) ≡ r
-reading_back (Stamp t) = refl
-reading_back (BackBy d) = refl
-reading_back (Refused f) = ap Refused (fault_back f)
+reading_back : (r : Result Reading Fault) → reading_by (number r) (values r) ≡ r
+reading_back (Ok (Stamp t)) = refl
+reading_back (Ok (BackBy d)) = refl
+reading_back (Err f) = ap Err (fault_back f)
 
-pub same_reading : (r q : Reading) → number r ≡ number q → values r ≡ values q → r ≡ q
+pub same_reading : (r q : Result Reading Fault) → number r ≡ number q → values r ≡ values q → r ≡ q
 same_reading r q n v = sym (reading_back r) ∙ rw (n, v) (reading_back q)
 
-abbrev told_by : ℕ → List ℕ → Told
-told_by n vs = get_or (Nothing ∷ []) n (Frame (reading_by n vs))
+abbrev told_by : ℕ → List ℕ → Option (Result Reading Fault)
+told_by n vs = get_or (None ∷ []) n (Some (reading_by n vs))
 
-told_back : (t : Told) → told_by (told_number t) (told_values t) ≡ t
-told_back Nothing = refl
-told_back (Frame (Stamp t)) = refl
-told_back (Frame (BackBy d)) = refl
-told_back (Frame (Refused f)) = ap (λ (x : Fault). Frame (Refused x)) (fault_back f)
+told_back : (t : Option (Result Reading Fault)) → told_by (told_number t) (told_values t) ≡ t
+told_back None = refl
+told_back (Some (Ok (Stamp t))) = refl
+told_back (Some (Ok (BackBy d))) = refl
+told_back (Some (Err f)) = ap (λ (x : Fault). Some (Err x)) (fault_back f)
 
-same_told : (t u : Told) → told_number t ≡ told_number u → told_values t ≡ told_values u → t ≡ u
+same_told : (t u : Option (Result Reading Fault)) → told_number t ≡ told_number u → told_values t ≡ told_values u → t ≡ u
 same_told t u n v = sym (told_back t) ∙ rw (n, v) (told_back u)
 
 -- ---- what each contract promises is one outcome, so two that it allows are the same

@@ -1,12 +1,6 @@
 -- The good frames that are handed out are read, and no others.
 use mathlib.Core.Path.{◌≡◌, refl, sym, ap, ◌∙◌, subst}
-use mathlib.Core.List.Memᴰ.{append_cases as among_cases}
-use mathlib.Core.List.Memᴰ.{append_left as among-left}
-use mathlib.Core.List.Memᴰ.{append_right as among-right}
-use mathlib.Core.List.Memᴰ.{eq_of_singleton as among_one}
-use mathlib.Core.List.Memᴰ.{head as among-head}
-use mathlib.Core.List.Memᴰ.{not-nil as among-nil}
-use mathlib.Core.List.Memᴰ.{tail as among-tail}
+use mathlib.Core.List.Memᴰ.{append_cases as among_cases, append_left as among-left, append_right as among-right, eq_of_singleton as among_one, head as among-head, not-nil as among-nil, tail as among-tail}
 use mathlib.Core.List.{List, [], ◌∷◌, ◌++◌, Memᴰ as Among}
 use Prim.Native.Nat.{ℕ, ◌-◌}
 use mathlib.Core.Logic.{inl, inr}

@@ -4,6 +4,7 @@ use mathlib.Core.Bool.{Bool}
 use mathlib.Core.List.{List, [], ◌∷◌, ◌++◌}
 use Prim.Native.Nat.{ℕ, ◌+◌, ◌-◌, ◌<◌}
 use native.Mathlib.Omega.{arith}
+use Rattle.std.specs.Prelude.{Option, Some, Result, Ok}
 use Rattle.taking.specs.declared.Place.{Place}
 use Rattle.taking.specs.View.{view}
 use Rattle.framer.specs.declared.Answer.{Answer, TheVariants.{UbxFrame, RtcmFrame, Sentence, WrongSum, NoRoom, NeedMore, Refused as AnswerRefused, WrongParity}}
@@ -11,7 +12,7 @@ use Rattle.stream.specs.Scan.{Event}
 use Rattle.stream.specs.Calls.{Parser, Call, starts, opens, steps, closes, views, step_given, after, heard as eventsOf, hears, hears_all}
 use Rattle.stream.specs.Demand.{fresh}
 use Rattle.stream.proofs.Demand.{every_cutting_gives_the_scan}
-use Rattle.stamp.specs.declared.Clock.{Clock, TheVariants.{Last}}
+use Rattle.stamp.specs.declared.Fault.{Fault}
 use Rattle.stamp.specs.declared.Reading.{Reading, TheVariants.{BackBy}}
 use Rattle.stamp.specs.declared.Heard.{Heard}
 use Rattle.stamp.specs.Message.{fields_of}
@@ -23,7 +24,7 @@ use Rattle.stamp.proofs.Outcomes.{Outcome, not_this, not_valid, outside, handed,
 -- ---- any sequence of frames
 
 -- one reading, and what rises after it
-rise_on : (clock : Clock) {this valid ranged : Bool} {t : ℕ} {h : Heard} (rs : List Reading) → Outcome clock this valid ranged t h
+rise_on : (clock : Option ℕ) {this valid ranged : Bool} {t : ℕ} {h : Heard} (rs : List (Result Reading Fault)) → Outcome clock this valid ranged t h
     → RiseFrom (floor h.clock) (stamps rs) → RiseFrom (floor clock) (stamps (h.reading ∷ rs))
 rise_on clock rs (not_this a) r = r
 rise_on clock rs (not_valid a b) r = r
@@ -37,7 +38,7 @@ stamps_never_fall clock (p ∷ ps) =
     let h = read clock p.class p.id p.bytes in
     rise_on clock (readings h.clock ps) (outcome clock p.class p.id p.bytes) (stamps_never_fall h.clock ps)
 
-last_on : (clock : Clock) {this valid ranged : Bool} {t : ℕ} {h : Heard} (rs : List Reading) → Outcome clock this valid ranged t h
+last_on : (clock : Option ℕ) {this valid ranged : Bool} {t : ℕ} {h : Heard} (rs : List (Result Reading Fault)) → Outcome clock this valid ranged t h
     → last_of h.clock (stamps rs) ≡ last_of clock (stamps (h.reading ∷ rs))
 last_on clock rs (not_this a) = refl
 last_on clock rs (not_valid a b) = refl
@@ -51,12 +52,12 @@ the_last_one_stays clock (p ∷ ps) =
     let h = read clock p.class p.id p.bytes in
     the_last_one_stays h.clock ps ∙ last_on clock (readings h.clock ps) (outcome clock p.class p.id p.bytes)
 
-back_from : (clock : Clock) {this valid ranged : Bool} (t : ℕ) {h : Heard} (d : ℕ) → Outcome clock this valid ranged t h → h.reading ≡ BackBy d
-    → (last : ℕ) × (clock ≡ Last last) × (0 < d) × (t + d ≡ last)
-back_from clock t d (not_this a) q = absurd (let z : ◌≡◌ {A = ℕ} 0 1 = cc in omega arith)
-back_from clock t d (not_valid a b) q = absurd (let z : ◌≡◌ {A = ℕ} 0 1 = cc in omega arith)
-back_from clock t d (outside a b c) q = absurd (let z : ◌≡◌ {A = ℕ} 0 1 = cc in omega arith)
-back_from clock t d (handed a b c low) q = absurd (let z : ◌≡◌ {A = ℕ} 0 1 = cc in omega arith)
+back_from : (clock : Option ℕ) {this valid ranged : Bool} (t : ℕ) {h : Heard} (d : ℕ) → Outcome clock this valid ranged t h → h.reading ≡ Ok (BackBy d)
+    → (last : ℕ) × (clock ≡ Some last) × (0 < d) × (t + d ≡ last)
+back_from clock t d (not_this a) q = cc
+back_from clock t d (not_valid a b) q = cc
+back_from clock t d (outside a b c) q = cc
+back_from clock t d (handed a b c low) q = cc
 back_from clock t d (back a b c l e low) q = let z : l - t ≡ d = cc in (l, e, omega arith, omega arith)
 
 pub back_is_true : BackIsTrue
@@ -65,7 +66,7 @@ back_is_true clock class id payload d q = back_from clock (stamp_of (fields_of p
 -- ---- a whole stream
 
 -- what an answer tells, and what is heard of it
-told_on : (clock : Clock) (base : ℕ) (sight : Place → List ℕ) (a : Answer) (es : List Event)
+told_on : (clock : Option ℕ) (base : ℕ) (sight : Place → List ℕ) (a : Answer) (es : List Event)
     → told (tells clock sight a).told ++ readings (tells clock sight a).clock (frames_in es) ≡ readings clock (frames_in (eventsOf base sight a ++ es))
 told_on clock base sight (UbxFrame class id p place) es = refl
 told_on clock base sight (RtcmFrame p place) es = refl
@@ -76,7 +77,7 @@ told_on clock base sight NeedMore es = refl
 told_on clock base sight (AnswerRefused r) es = refl
 told_on clock base sight (WrongParity p expect got) es = refl
 
-call_tells : (k : Call) (clock : Clock) (p : Parser) (es : List Event)
+call_tells : (k : Call) (clock : Option ℕ) (p : Parser) (es : List Event)
     → told (tidings k clock p).told ++ readings (tidings k clock p).clock (frames_in es) ≡ readings clock (frames_in (hears k p ++ es))
 unfolding tidings hears step
 call_tells (starts m mode max) clock p es = refl
@@ -88,10 +89,10 @@ call_tells (closes s m chunk) clock p es = refl
 call_tells (views m chunk place) clock p es = refl
 
 -- so calls tell the frames that are heard
-all_told : (ks : List Call) (clock : Clock) (p : Parser) → told_all ks clock p ≡ readings clock (frames_in (hears_all ks p))
+all_told : (ks : List Call) (clock : Option ℕ) (p : Parser) → told_all ks clock p ≡ readings clock (frames_in (hears_all ks p))
 all_told [] clock p = refl
 all_told (k ∷ ks) clock p =
-    ap (λ (rs : List Reading). told (tidings k clock p).told ++ rs) (all_told ks (tidings k clock p).clock (after k p))
+    ap (λ (rs : List (Result Reading Fault)). told (tidings k clock p).told ++ rs) (all_told ks (tidings k clock p).clock (after k p))
     ∙ call_tells k clock p (hears_all ks (after k p))
 
 pub step_is_the_framers : StepIsTheFramers

@@ -6,28 +6,28 @@ use Prim.Native.Nat.{ℕ, ◌-◌, ◌≤◌, ◌<◌}
 use native.Mathlib.Omega.{arith}
 use lib.ListN.{length}
 use borrow.Author.Tests.{ltb-true, ltb-false, not-true, not-false}
+use Rattle.std.specs.Prelude.{Option, None, Some, Ok, Err}
 use Rattle.window.specs.Pick.{pick}
 use Rattle.window.proofs.Pick.{by_pick}
-use Rattle.stamp.specs.declared.Clock.{Clock, TheVariants.{Unset, Last}}
 use Rattle.stamp.specs.declared.Heard.{Heard}
 use Rattle.stamp.specs.declared.Fault.TheVariants.{NotThisMessage, NotValid, Field}
-use Rattle.stamp.specs.declared.Reading.TheVariants.{Stamp, BackBy, Refused}
+use Rattle.stamp.specs.declared.Reading.TheVariants.{Stamp, BackBy}
 use Rattle.stamp.specs.Message.{is_this, fields_of, is_valid, in_range}
 use Rattle.stamp.specs.Stamp.{stamp_of, heard, hand, read}
 use Rattle.stamp.specs.NeverBack.{floor}
 
-module _ (clock : Clock) (class id : ℕ) (payload : List ℕ) where
-  pub read_other : is_this class id (length payload) ≡ false → read clock class id payload ≡ heard (Refused NotThisMessage) clock
+module _ (clock : Option ℕ) (class id : ℕ) (payload : List ℕ) where
+  pub read_other : is_this class id (length payload) ≡ false → read clock class id payload ≡ heard (Err NotThisMessage) clock
   unfolding read pick
   read_other e = rw e
 
   module _ (this : is_this class id (length payload) ≡ true) where
-    pub read_invalid : is_valid (fields_of payload) ≡ false → read clock class id payload ≡ heard (Refused NotValid) clock
+    pub read_invalid : is_valid (fields_of payload) ≡ false → read clock class id payload ≡ heard (Err NotValid) clock
     unfolding read pick
     read_invalid e = rw (this, e)
 
     module _ (valid : is_valid (fields_of payload) ≡ true) where
-      pub read_outside : in_range (fields_of payload) ≡ false → read clock class id payload ≡ heard (Refused Field) clock
+      pub read_outside : in_range (fields_of payload) ≡ false → read clock class id payload ≡ heard (Err Field) clock
       unfolding read pick
       read_outside e = rw (this, valid, e)
 
@@ -36,28 +36,28 @@ module _ (clock : Clock) (class id : ℕ) (payload : List ℕ) where
       read_hands e = rw (this, valid, e)
 
 -- a reading is one of these, and says which tests the payload passed
-pub data Outcome (clock : Clock) (this valid ranged : Bool) (t : ℕ) : Heard → Type 0 where
-  not_this : this ≡ false → Outcome clock this valid ranged t (heard (Refused NotThisMessage) clock)
-  not_valid : this ≡ true → valid ≡ false → Outcome clock this valid ranged t (heard (Refused NotValid) clock)
-  outside : this ≡ true → valid ≡ true → ranged ≡ false → Outcome clock this valid ranged t (heard (Refused Field) clock)
+pub data Outcome (clock : Option ℕ) (this valid ranged : Bool) (t : ℕ) : Heard → Type 0 where
+  not_this : this ≡ false → Outcome clock this valid ranged t (heard (Err NotThisMessage) clock)
+  not_valid : this ≡ true → valid ≡ false → Outcome clock this valid ranged t (heard (Err NotValid) clock)
+  outside : this ≡ true → valid ≡ true → ranged ≡ false → Outcome clock this valid ranged t (heard (Err Field) clock)
   handed : this ≡ true → valid ≡ true → ranged ≡ true → floor clock ≤ t
-      → Outcome clock this valid ranged t (heard (Stamp t) (Last t))
-  back : this ≡ true → valid ≡ true → ranged ≡ true → (l : ℕ) → clock ≡ Last l → t < l
-      → Outcome clock this valid ranged t (heard (BackBy (l - t)) clock)
+      → Outcome clock this valid ranged t (heard (Ok (Stamp t)) (Some t))
+  back : this ≡ true → valid ≡ true → ranged ≡ true → (l : ℕ) → clock ≡ Some l → t < l
+      → Outcome clock this valid ranged t (heard (Ok (BackBy (l - t))) clock)
 
-hand_outcome : (clock : Clock) (this valid ranged : Bool) (t : ℕ) → this ≡ true → valid ≡ true → ranged ≡ true
+hand_outcome : (clock : Option ℕ) (this valid ranged : Bool) (t : ℕ) → this ≡ true → valid ≡ true → ranged ≡ true
     → Outcome clock this valid ranged t (hand clock t)
-hand_outcome Unset this valid ranged t a b c = handed a b c (omega arith)
-hand_outcome (Last l) this valid ranged t a b c =
-    by_pick (Outcome (Last l) this valid ranged t) (λ e. back a b c l refl (ltb-true t l e)) (λ e. handed a b c (ltb-false t l e))
+hand_outcome None this valid ranged t a b c = handed a b c (omega arith)
+hand_outcome (Some l) this valid ranged t a b c =
+    by_pick (Outcome (Some l) this valid ranged t) (λ e. back a b c l refl (ltb-true t l e)) (λ e. handed a b c (ltb-false t l e))
 
 -- of a frame's payload: this message, valid, in range, and its stamp
-abbrev pub OutcomeOf : Clock → ℕ → ℕ → List ℕ → Heard → Type 0
+abbrev pub OutcomeOf : Option ℕ → ℕ → ℕ → List ℕ → Heard → Type 0
 OutcomeOf clock class id payload h =
     let f = fields_of payload in
     Outcome clock (is_this class id (length payload)) (is_valid f) (in_range f) (stamp_of f) h
 
-pub outcome : (clock : Clock) (class id : ℕ) (payload : List ℕ) → OutcomeOf clock class id payload (read clock class id payload)
+pub outcome : (clock : Option ℕ) (class id : ℕ) (payload : List ℕ) → OutcomeOf clock class id payload (read clock class id payload)
 unfolding read
 outcome clock class id payload =
     let f = fields_of payload in

@@ -1,5 +1,7 @@
 -- 02, Ticket 1: NAV-TIMEUTC, as it lays the fields out. All are little-endian.
-use Rattle.std.specs.Prelude.{ℕ, ◌+◌, ◌-◌, ◌*◌, ◌/◌, ◌%◌, Bool, ◌&&◌, List, get_or, leb, eqb}
+use Rattle.std.specs.Prelude.{◌≡◌, ℕ, ◌+◌, ◌-◌, ◌*◌, ◌/◌, ◌%◌, ◌<◌, Bool, ◌&&◌, List, get_or, leb, eqb}
+use Rattle.std.specs.Int.{w32, cast_signed, is_negative}
+use Rattle.std.specs.Int.RustNames.{unsigned_abs}
 use Rattle.sum.specs.Sum.{pair_of}
 use Rattle.window.specs.Pick.{pick}
 use Rattle.calendar.specs.Ranges.{within, is_date, is_time}
@@ -25,11 +27,14 @@ is_minus n = leb 0x80000000 n
 abbrev pub distance : ℕ → ℕ
 distance n = pick (is_minus n) (0x100000000 - n) n
 
+-- that is the number which `cast_signed` makes of 32 bits: its sign, and how far it is from zero
+abbrev pub SignedBits : Type 0
+SignedBits = (n : ℕ) → n < 0x100000000 → (is_negative (cast_signed w32 n) ≡ is_minus n) × (unsigned_abs (cast_signed w32 n) ≡ distance n)
+
 -- signed nanoseconds at 8, year at 12, month, day, hour, minute, second, flags at 19
 abbrev pub fields_of : List ℕ → Fields
 fields_of payload = record {
-  minus = is_minus (long payload 8);
-  nano = distance (long payload 8);
+  nano = cast_signed w32 (long payload 8);
   year = word payload 12;
   month = byte payload 14;
   day = byte payload 15;
@@ -48,4 +53,4 @@ unfoldable pub in_range : Fields → Bool
 in_range f =
     is_date f.year f.month f.day
     && (is_time f.hour f.minute f.second
-    && within 0 1000000000 f.nano)
+    && within 0 1000000000 (unsigned_abs f.nano))

@@ -1,11 +1,10 @@
 -- What the operations promise, as equalities with the definitions: an answer by its number and values, the clock, the next state,
 -- and every byte of the carry.
-use Rattle.std.specs.Prelude.{◌≡◌, ℕ, List, [], ◌∷◌}
+use Rattle.std.specs.Prelude.{◌≡◌, ℕ, List, [], ◌∷◌, Option, None, Some, Result, Ok, Err}
 use Rattle.framer.specs.Answers as answers
 use Rattle.stamp.specs.declared.Fault.{Fault, TheVariants.{NotThisMessage, NotValid, Field}}
-use Rattle.stamp.specs.declared.Reading.{Reading, TheVariants.{Stamp, BackBy, Refused}}
+use Rattle.stamp.specs.declared.Reading.{Reading, TheVariants.{Stamp, BackBy}}
 use Rattle.stamp.specs.declared.Heard.{Heard}
-use Rattle.stamp.specs.declared.Told.{Told, TheVariants.{Nothing, Frame}}
 use Rattle.stamp.specs.declared.Timed.{Timed}
 use Rattle.stamp.specs.Step.{TimedOut}
 
@@ -15,24 +14,24 @@ fault_no NotThisMessage = 1
 fault_no NotValid = 2
 fault_no Field = 3
 
-abbrev pub number : Reading → ℕ
-number (Stamp t) = 1
-number (BackBy d) = 2
-number (Refused f) = 3
+abbrev pub number : Result Reading Fault → ℕ
+number (Ok (Stamp t)) = 1
+number (Ok (BackBy d)) = 2
+number (Err f) = 3
 
-abbrev pub values : Reading → List ℕ
-values (Stamp t) = t ∷ []
-values (BackBy d) = d ∷ []
-values (Refused f) = fault_no f ∷ []
+abbrev pub values : Result Reading Fault → List ℕ
+values (Ok (Stamp t)) = t ∷ []
+values (Ok (BackBy d)) = d ∷ []
+values (Err f) = fault_no f ∷ []
 
 -- nothing told has 0
-abbrev pub told_number : Told → ℕ
-told_number Nothing = 0
-told_number (Frame r) = number r
+abbrev pub told_number : Option (Result Reading Fault) → ℕ
+told_number None = 0
+told_number (Some r) = number r
 
-abbrev pub told_values : Told → List ℕ
-told_values Nothing = []
-told_values (Frame r) = values r
+abbrev pub told_values : Option (Result Reading Fault) → List ℕ
+told_values None = []
+told_values (Some r) = values r
 
 pub record Reads (is r : Heard) : Type 0 where
   pub number : number r.reading ≡ number is.reading

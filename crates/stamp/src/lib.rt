@@ -1,11 +1,10 @@
 // Stamps that never run back: NAV-TIMEUTC frames read to nanoseconds since 1970, over the framer's answers.
 #![tactic(auto)]
 
-ghost use Rattle.std.specs.Prelude.{◌≡◌, true, ◌<◌, length};
+ghost use Rattle.std.specs.Prelude.{◌≡◌, ℕ, true, ◌<◌, length, Option};
 ghost use Rattle.taking.specs.View.{view};
-ghost use Rattle.stamp.specs.Message.{is_this, is_minus, distance, fields_of, is_valid, in_range};
-ghost use Rattle.sum.specs.Sum.{pair_of};
-ghost use Rattle.stamp.specs.Stamp.{stamp_of, heard, hand, read};
+ghost use Rattle.stamp.specs.Message.{is_this, fields_of, is_valid, in_range};
+ghost use Rattle.stamp.specs.Stamp.{stamp_of, hand, read, heard_of};
 ghost use Rattle.stamp.specs.Step.{payload_of, tells, step};
 ghost use Rattle.stamp.specs.Promises.{Reads, Times};
 
@@ -20,19 +19,7 @@ const ID: u8 = 0x21;
 const LENGTH: usize = 20;
 
 // A second in nanoseconds; a payload's nanoseconds lie within it either way.
-const SECOND: u64 = 1000000000;
-
-// In two's complement of 32 bits, the numbers from half of all on are below zero.
-const HALF: u64 = 0x80000000;
-
-const ALL: u64 = 0x100000000;
-
-// The last stamp handed out, if any. Any value is taken.
-#[derive(Clone, Copy)]
-pub enum Clock {
-    Unset,
-    Last(u64),
-}
+const SECOND: u64 = 1_000_000_000;
 
 // The three refusals, in their order.
 #[derive(Clone, Copy)]
@@ -42,49 +29,41 @@ pub enum Fault {
     Field,
 }
 
-// What a frame is read to: a stamp, handed out; or how far one would be below the last, in nanoseconds; or a refusal.
+// What a frame that is not refused is read to: a stamp, handed out; or how far one would be below the last, in nanoseconds.
 #[derive(Clone, Copy)]
 pub enum Reading {
     Stamp(u64),
     BackBy(u64),
-    Refused(Fault),
 }
 
-// A frame's reading, and the clock after it.
+// A frame's reading, or its refusal; and the clock after it, which is the last stamp handed out, if any. A clock of any value is
+// taken.
 #[derive(Clone, Copy)]
 pub struct Heard {
-    pub reading: Reading,
-    pub clock: Clock,
+    pub reading: Result<Reading, Fault>,
+    pub clock: Option<u64>,
 }
 
-// What a step tells: nothing, where it handed out no UBX frame; or the frame's reading.
-#[derive(Clone, Copy)]
-pub enum Told {
-    Nothing,
-    Frame(Reading),
-}
-
-// A step's answer and next state, what it told, and the clock after it.
+// A step's answer and next state; what it told, which is nothing where it handed out no UBX frame; and the clock after it.
 #[derive(Clone, Copy)]
 pub struct Timed {
     pub answer: Answer,
-    pub told: Told,
-    pub clock: Clock,
+    pub told: Option<Result<Reading, Fault>>,
+    pub clock: Option<u64>,
     pub state: State,
 }
 
 // What an answer told, and the clock after it.
 #[derive(Clone, Copy)]
 struct News {
-    told: Told,
-    clock: Clock,
+    told: Option<Result<Reading, Fault>>,
+    clock: Option<u64>,
 }
 
-// A payload's fields; of the nanoseconds, whether they are below zero, and how far from it.
+// A payload's fields; its nanoseconds are signed.
 #[derive(Clone, Copy)]
 struct Fields {
-    minus: bool,
-    nano: u64,
+    nano: i64,
     year: u64,
     month: u64,
     day: u64,
@@ -94,66 +73,29 @@ struct Fields {
     flags: u64,
 }
 
-// Whether 32 bits are a number below zero, and how far from zero it is.
-fn is_minus(n: u64) -> bool
-    ensures { result ≡ is_minus n }
-{
-    HALF <= n
-}
-
-fn distance(n: u64) -> u64
-    requires { n < 4294967296 }
-    ensures { result ≡ distance n }
-{
-    if is_minus(n) {
-        return ALL - n;
-    }
-    n
-}
-
-fn wide(x: u8) -> u64
-    ensures { result ≡ x }
-{
-    x as u64
-}
-
-// Two bytes as one number, low byte first.
-fn word(low: u8, high: u8) -> u64
-    ensures { (result ≡ pair_of low high) × (result < 65536) }
-{
-    sum::word(low, high) as u64
-}
-
 // The fields of a whole payload, as they lie in it.
 fn fields_of(payload: &[u8]) -> Fields
     requires { length payload.now ≡ 20 }
     ensures { result ≡ fields_of payload.now }
 {
-    let nano = word(payload[8], payload[9]) + 65536 * word(payload[10], payload[11]);
     Fields {
-        minus: is_minus(nano),
-        nano: distance(nano),
-        year: word(payload[12], payload[13]),
-        month: wide(payload[14]),
-        day: wide(payload[15]),
-        hour: wide(payload[16]),
-        minute: wide(payload[17]),
-        second: wide(payload[18]),
-        flags: wide(payload[19]),
+        nano: i64::from(i32::from_le_bytes([payload[8], payload[9], payload[10], payload[11]])),
+        year: u64::from(u16::from_le_bytes([payload[12], payload[13]])),
+        month: u64::from(payload[14]),
+        day: u64::from(payload[15]),
+        hour: u64::from(payload[16]),
+        minute: u64::from(payload[17]),
+        second: u64::from(payload[18]),
+        flags: u64::from(payload[19]),
     }
 }
 
 // NAV-TIMEUTC, by class, id and the payload's length.
+#[tactic(auto, unfolding(crate::specs::Message::is_this))]
 fn is_this(class: u8, id: u8, len: usize) -> bool
     ensures { result ≡ is_this class id len }
 {
-    if class != CLASS {
-        return false;
-    }
-    if id != ID {
-        return false;
-    }
-    len == LENGTH
+    class == CLASS && id == ID && len == LENGTH
 }
 
 // Bit 2 of the flags.
@@ -164,112 +106,97 @@ fn is_valid(f: Fields) -> bool
 }
 
 // Whether every field is in its range.
+#[tactic(auto, unfolding(crate::specs::Message::in_range))]
 fn in_range(f: Fields) -> bool
     ensures { result ≡ in_range f }
 {
-    if !calendar::is_date(f.year, f.month, f.day) {
-        return false;
-    }
-    if !calendar::is_time(f.hour, f.minute, f.second) {
-        return false;
-    }
-    calendar::within(0, SECOND, f.nano)
+    calendar::is_date(f.year, f.month, f.day)
+        && calendar::is_time(f.hour, f.minute, f.second)
+        && calendar::within(0, SECOND, f.nano.unsigned_abs())
 }
 
 // Nanoseconds since 1970.
+#[tactic(auto, using(crate::proofs::Ranges::ranged, crate::proofs::Ranges::days_bound), unfolding(crate::specs::Stamp::stamp_of, crate::specs::Stamp::seconds, window::specs::Pick::pick))]
 fn stamp_of(f: Fields) -> u64
     requires { in_range f ≡ true }
     ensures { result ≡ stamp_of f }
 {
     let days = calendar::day_number(f.year, f.month, f.day);
     let whole = calendar::seconds_at(days, f.hour, f.minute, f.second) * SECOND;
-    if f.minus {
-        return whole - f.nano;
-    }
-    whole + f.nano
-}
-
-// A refusal: the last stamp stays.
-fn refused(clock: Clock, fault: Fault) -> Heard
-    ensures { result ≡ heard (Reading.Refused fault) clock }
-{
-    Heard {
-        reading: Reading::Refused(fault),
-        clock,
-    }
-}
-
-// A stamp that is handed out: it is the last one now.
-fn handed(t: u64) -> Heard
-    ensures { result ≡ heard (Reading.Stamp t) (Clock.Last t) }
-{
-    Heard {
-        reading: Reading::Stamp(t),
-        clock: Clock::Last(t),
+    if f.nano < 0 {
+        whole - f.nano.unsigned_abs()
+    } else {
+        whole + f.nano.unsigned_abs()
     }
 }
 
 // A stamp is handed out unless it is below the last; that one stays then.
-fn hand(clock: Clock, t: u64) -> Heard
+#[tactic(auto, unfolding(window::specs::Pick::pick))]
+fn hand(clock: Option<u64>, t: u64) -> Heard
     ensures { result ≡ hand clock t }
 {
     match clock {
-        Clock::Unset => handed(t),
-        Clock::Last(last) => {
-            if t < last {
-                return Heard {
-                    reading: Reading::BackBy(last - t),
-                    clock: Clock::Last(last),
-                };
-            }
-            handed(t)
-        }
+        Some(last) if t < last => Heard {
+            reading: Ok(Reading::BackBy(last - t)),
+            clock: Some(last),
+        },
+        _ => Heard {
+            reading: Ok(Reading::Stamp(t)),
+            clock: Some(t),
+        },
     }
 }
 
-// One frame's payload, read after those that the clock knows: 02's refusals in their order, then the stamp.
-pub fn read(clock: Clock, class: u8, id: u8, payload: &[u8]) -> Heard
-    ensures { Reads (read clock class id payload.now) result }
+// A payload's stamp, or 02's refusals in their order: what any clock reads of it.
+#[tactic(auto, using(crate::proofs::Outcomes::read_other, crate::proofs::Outcomes::read_invalid, crate::proofs::Outcomes::read_outside, crate::proofs::Outcomes::read_hands, crate::proofs::Ranges::this_length))]
+fn stamp_in(class: u8, id: u8, payload: &[u8]) -> Result<u64, Fault>
+    ensures { (clock : Option ℕ) → read clock class id payload.now ≡ heard_of clock result }
 {
     if !is_this(class, id, payload.len()) {
-        return refused(clock, Fault::NotThisMessage);
+        return Err(Fault::NotThisMessage);
     }
     let f = fields_of(payload);
     if !is_valid(f) {
-        return refused(clock, Fault::NotValid);
+        return Err(Fault::NotValid);
     }
     if !in_range(f) {
-        return refused(clock, Fault::Field);
+        return Err(Fault::Field);
     }
-    hand(clock, stamp_of(f))
+    Ok(stamp_of(f))
+}
+
+// One frame's payload, read after those that the clock knows. On a refusal the last stamp stays.
+pub fn read(clock: Option<u64>, class: u8, id: u8, payload: &[u8]) -> Heard
+    ensures { Reads (read clock class id payload.now) result }
+{
+    match stamp_in(class, id, payload) {
+        Ok(t) => hand(clock, t),
+        Err(fault) => Heard {
+            reading: Err(fault),
+            clock,
+        },
+    }
 }
 
 // A body without its two check bytes.
 fn payload_of(body: &[u8]) -> &[u8]
     ensures { result.now ≡ payload_of body.now }
 {
-    if body.len() < 2 {
-        return &body[..0];
-    }
-    let end = body.len() - 2;
-    &body[..end]
+    &body[..body.len().saturating_sub(2)]
 }
 
 // What an answer tells: a UBX frame's payload is read.
-fn tell<'a>(clock: Clock, carry: &'a [u8], chunk: &'a [u8], answer: Answer) -> News
+fn tell<'a>(clock: Option<u64>, carry: &'a [u8], chunk: &'a [u8], answer: Answer) -> News
     ensures { result ≡ tells clock (view carry.now chunk.now) answer }
 {
     let Answer::UbxFrame {
         class,
         id,
-        at: _,
         place,
+        ..
     } = answer
     else {
-        return News {
-            told: Told::Nothing,
-            clock,
-        };
+        return News { told: None, clock };
     };
     let heard = read(
         clock,
@@ -277,28 +204,22 @@ fn tell<'a>(clock: Clock, carry: &'a [u8], chunk: &'a [u8], answer: Answer) -> N
         id,
         payload_of(taking::view(carry, chunk, place)),
     );
-    let reading = heard.reading;
-    let next = heard.clock;
     News {
-        told: Told::Frame(reading),
-        clock: next,
+        told: Some(heard.reading),
+        clock: heard.clock,
     }
 }
 
 // A step of the framer; the payload of a UBX frame that it hands out is read.
-pub fn step(clock: Clock, s: State, carry: &mut [u8], chunk: &[u8]) -> Timed
+pub fn step(clock: Option<u64>, s: State, carry: &mut [u8], chunk: &[u8]) -> Timed
     ensures { Times (step clock s carry.old chunk.now) result carry.new }
 {
     let stepped = framer::step(s, carry, chunk);
-    let answer = stepped.answer;
-    let state = stepped.state;
-    let news = tell(clock, carry, chunk, answer);
-    let told = news.told;
-    let after = news.clock;
+    let news = tell(clock, carry, chunk, stepped.answer);
     Timed {
-        answer,
-        told,
-        clock: after,
-        state,
+        answer: stepped.answer,
+        told: news.told,
+        clock: news.clock,
+        state: stepped.state,
     }
 }

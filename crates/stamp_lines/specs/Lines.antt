@@ -1,9 +1,9 @@
 -- The lines of `stamps`: one for each frame of class 01 and id 21, and the totals. Numbers are decimal.
-use Rattle.std.specs.Prelude.{ℕ, List, [], ◌++◌}
+use Rattle.std.specs.Prelude.{ℕ, List, [], ◌++◌, Result, Ok, Err}
 use Rattle.text.specs.Text.{ascii}
 use Rattle.text.specs.Labels.{labelled, sized, here}
 use Rattle.stamp.specs.declared.Fault.{Fault, TheVariants.{NotThisMessage, NotValid, Field}}
-use Rattle.stamp.specs.declared.Reading.{Reading, TheVariants.{Stamp, BackBy, Refused}}
+use Rattle.stamp.specs.declared.Reading.{Reading, TheVariants.{Stamp, BackBy}}
 use Rattle.stamp_lines.specs.declared.Note.{Note, TheVariants.{Time, Other, Sum, Passed, End}}
 use Rattle.stamp_lines.specs.declared.Tally.{Tally}
 
@@ -13,10 +13,10 @@ refused NotThisMessage = ascii " refused not this message\n"
 refused NotValid = ascii " refused not valid\n"
 refused Field = ascii " refused field\n"
 
-abbrev pub said : Reading → List ℕ
-said (Stamp t) = sized " stamp " t
-said (BackBy d) = sized " back by " d
-said (Refused f) = refused f
+abbrev pub said : Result Reading Fault → List ℕ
+said (Ok (Stamp t)) = sized " stamp " t
+said (Ok (BackBy d)) = sized " back by " d
+said (Err f) = refused f
 
 -- only a time frame has a line; `before` is what earlier closes reported as used
 abbrev pub line : ℕ → Note → List ℕ

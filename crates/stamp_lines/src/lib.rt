@@ -4,21 +4,24 @@
 ghost use Rattle.std.specs.Prelude.{◌≡◌, ◌+◌, ◌≤◌, length};
 ghost use Rattle.text.specs.Text.{Puts};
 ghost use Rattle.stamp_lines.specs.Lines.{refused, said, line, tallies, totals};
-ghost use Rattle.stamp_lines.specs.Notes.{frame, noted, goes_on, one_more, by_reading, tallied};
+ghost use Rattle.stamp_lines.specs.Notes.{frame, noted, goes_on, tallied};
 
 use framer::Answer;
-use stamp::{Fault, Reading, Told};
+use stamp::{Fault, Reading};
 
 // NAV-TIMEUTC.
 const CLASS: u8 = 0x01;
 
 const ID: u8 = 0x21;
 
-// What a step brought: a frame of class 01 and id 21, with its reading; another UBX frame; a wrong sum; an answer that is not
-// counted; or the end of what the chunk gives.
+// What a step brought: a frame of class 01 and id 21, with its reading or refusal; another UBX frame; a wrong sum; an answer that
+// is not counted; or the end of what the chunk gives.
 #[derive(Clone, Copy)]
 pub enum Note {
-    Time { at: usize, reading: Reading },
+    Time {
+        at: usize,
+        reading: Result<Reading, Fault>,
+    },
     Other,
     Sum,
     Passed,
@@ -26,7 +29,7 @@ pub enum Note {
 }
 
 // Time frames by their reading, other UBX frames, and wrong sums.
-#[derive(Clone, Copy)]
+#[derive(Clone, Copy, Default)]
 pub struct Tally {
     pub stamps: u64,
     pub back: u64,
@@ -40,22 +43,23 @@ fn refused(out: &mut [u8], at: usize, fault: Fault) -> usize
     requires { at + 30 ≤ length out.old }
     ensures { Puts (refused fault) out.old at out.new result }
 {
-    match fault {
-        Fault::NotThisMessage => text::text(out, at, b" refused not this message\n"),
-        Fault::NotValid => text::text(out, at, b" refused not valid\n"),
-        Fault::Field => text::text(out, at, b" refused field\n"),
-    }
+    let words: &[u8] = match fault {
+        Fault::NotThisMessage => b" refused not this message\n",
+        Fault::NotValid => b" refused not valid\n",
+        Fault::Field => b" refused field\n",
+    };
+    text::text(out, at, words)
 }
 
 // What a frame was read to, to the line's end.
-fn said(out: &mut [u8], at: usize, reading: Reading) -> usize
+fn said(out: &mut [u8], at: usize, reading: Result<Reading, Fault>) -> usize
     requires { at + 30 ≤ length out.old }
     ensures { Puts (said reading) out.old at out.new result }
 {
     match reading {
-        Reading::Stamp(t) => text::sized(out, at, b" stamp ", t),
-        Reading::BackBy(d) => text::sized(out, at, b" back by ", d),
-        Reading::Refused(fault) => refused(out, at, fault),
+        Ok(Reading::Stamp(t)) => text::sized(out, at, b" stamp ", t),
+        Ok(Reading::BackBy(d)) => text::sized(out, at, b" back by ", d),
+        Err(fault) => refused(out, at, fault),
     }
 }
 
@@ -69,10 +73,7 @@ pub fn line(out: &mut [u8], at: usize, before: u64, note: Note) -> usize
             let next = text::here(out, at, before, p);
             said(out, next, reading)
         }
-        Note::Other => at,
-        Note::Sum => at,
-        Note::Passed => at,
-        Note::End => at,
+        Note::Other | Note::Sum | Note::Passed | Note::End => at,
     }
 }
 
@@ -101,39 +102,28 @@ pub fn totals(out: &mut [u8], at: usize, t: Tally, used: u64, kept: u64, lost: u
 }
 
 // A UBX frame: a time frame by its class and id, whatever its length. A step tells the reading of every one.
-fn frame(class: u8, id: u8, at: usize, told: Told) -> Note
+#[tactic(auto, unfolding(crate::specs::Notes::frame, window::specs::Pick::pick))]
+fn frame(class: u8, id: u8, at: usize, told: Option<Result<Reading, Fault>>) -> Note
     ensures { result ≡ frame class id at told }
 {
-    let Told::Frame(reading) = told else {
-        return Note::Other;
-    };
-    if class != CLASS {
-        return Note::Other;
+    match told {
+        Some(reading) if class == CLASS && id == ID => Note::Time { at, reading },
+        _ => Note::Other,
     }
-    if id != ID {
-        return Note::Other;
-    }
-    Note::Time { at, reading }
 }
 
 // What a step's answer brought.
-pub fn noted(answer: Answer, told: Told) -> Note
+pub fn noted(answer: Answer, told: Option<Result<Reading, Fault>>) -> Note
     ensures { result ≡ noted answer told }
 {
     match answer {
-        Answer::UbxFrame {
-            class,
-            id,
-            at,
-            place: _,
-        } => frame(class, id, at, told),
-        Answer::RtcmFrame { .. } => Note::Passed,
-        Answer::Sentence { .. } => Note::Passed,
+        Answer::UbxFrame { class, id, at, .. } => frame(class, id, at, told),
         Answer::WrongSum { .. } => Note::Sum,
-        Answer::NoRoom { .. } => Note::Passed,
-        Answer::NeedMore => Note::End,
-        Answer::Refused(_) => Note::End,
-        Answer::WrongParity { .. } => Note::Passed,
+        Answer::RtcmFrame { .. }
+        | Answer::Sentence { .. }
+        | Answer::NoRoom { .. }
+        | Answer::WrongParity { .. } => Note::Passed,
+        Answer::NeedMore | Answer::Refused(_) => Note::End,
     }
 }
 
@@ -141,57 +131,36 @@ pub fn noted(answer: Answer, told: Told) -> Note
 pub fn goes_on(note: Note) -> bool
     ensures { result ≡ goes_on note }
 {
-    match note {
-        Note::Time { .. } => true,
-        Note::Other => true,
-        Note::Sum => true,
-        Note::Passed => true,
-        Note::End => false,
-    }
+    !matches!(note, Note::End)
 }
 
-// Counted in 64 bits.
-fn one_more(n: u64) -> u64
-    ensures { result ≡ one_more n }
-{
-    std::num::wrapping_add_u64(n, 1)
-}
-
-// One more time frame, counted by its reading.
-fn by_reading(t: Tally, reading: Reading) -> Tally
-    ensures { result ≡ by_reading t reading }
-{
-    match reading {
-        Reading::Stamp(_) => Tally {
-            stamps: one_more(t.stamps),
-            ..t
-        },
-        Reading::BackBy(_) => Tally {
-            back: one_more(t.back),
-            ..t
-        },
-        Reading::Refused(_) => Tally {
-            refused: one_more(t.refused),
-            ..t
-        },
-    }
-}
-
-// One more of what a step brought.
+// One more of what a step brought, a time frame by its reading. Counts wrap at 64 bits.
 pub fn tallied(t: Tally, note: Note) -> Tally
     ensures { result ≡ tallied t note }
 {
     match note {
-        Note::Time { at: _, reading } => by_reading(t, reading),
+        Note::Time { reading, .. } => match reading {
+            Ok(Reading::Stamp(_)) => Tally {
+                stamps: t.stamps.wrapping_add(1),
+                ..t
+            },
+            Ok(Reading::BackBy(_)) => Tally {
+                back: t.back.wrapping_add(1),
+                ..t
+            },
+            Err(_) => Tally {
+                refused: t.refused.wrapping_add(1),
+                ..t
+            },
+        },
         Note::Other => Tally {
-            other: one_more(t.other),
+            other: t.other.wrapping_add(1),
             ..t
         },
         Note::Sum => Tally {
-            sums: one_more(t.sums),
+            sums: t.sums.wrapping_add(1),
             ..t
         },
-        Note::Passed => t,
-        Note::End => t,
+        Note::Passed | Note::End => t,
     }
 }

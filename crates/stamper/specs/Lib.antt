@@ -1,1 +1,2 @@
 pub mod Stamping
+pub mod Laws

@@ -5,7 +5,7 @@
 ghost use Rattle.std.specs.Prelude.{◌≡◌, true, ◌+◌, ◌≤◌};
 ghost use Rattle.state.specs.Words.{left, ahead, width, drain, idle};
 ghost use Rattle.state.specs.Ready.{Sane};
-ghost use Rattle.state.specs.Refusals.{idle_bad, is_bad, may_open, may_use};
+ghost use Rattle.state.specs.Refusals.{refusal_no, idle_bad, is_bad, may_open, may_use};
 
 use window::{Mode, Window};
 
@@ -16,7 +16,7 @@ pub const LIMIT: usize = 16384;
 const COUNT_LIMIT: usize = 32768;
 
 // 01's seven refusals, in the table's order.
-#[derive(Clone, Copy)]
+#[derive(Clone, Copy, PartialEq, Eq)]
 pub enum Refusal {
     CarryTooBig,
     BadState,
@@ -27,8 +27,26 @@ pub enum Refusal {
     BadPlace,
 }
 
+// A refusal's number in the table.
+impl From<Refusal> for u64 {
+    ghost from_gives = { λ refusal n. n ≡ refusal_no refusal };
+
+    fn from(refusal: Refusal) -> u64 {
+        match refusal {
+            Refusal::CarryTooBig => 1,
+            Refusal::BadState => 2,
+            Refusal::AlreadyOpen => 3,
+            Refusal::NotOpen => 4,
+            Refusal::ChunkTooLong => 5,
+            Refusal::OtherChunk => 6,
+            Refusal::BadPlace => 7,
+        }
+    }
+}
+
 // A parser: mode and MAX; C, the carry's length; how many of the carry's bytes are live, and how many of these used up; the
-// bytes used since opening; whether it is open, the chunk's length then, and the chunk part used.
+// bytes used since opening; whether it is open, the chunk's length then, and the chunk part used. `open` stands beside the chunk's two
+// numbers since C lends any of them: `is_bad` and `idle_bad` answer for an idle state with a chunk.
 #[derive(Clone, Copy)]
 pub struct State {
     pub mode: Mode,
@@ -189,7 +207,8 @@ pub fn is_usable(s: State, carry_len: usize, chunk_len: usize) -> bool
     s.used <= COUNT_LIMIT - w
 }
 
-// Stepping and closing: refusal 2, then 4, then 6.
+// Stepping and closing: refusal 2, then 4, then 6. It is no one function with `may_open`: of the three tests of each two differ, and so
+// do their refusals.
 pub fn may_use(s: State, carry_len: usize, chunk_len: usize) -> Result<(), Refusal>
     ensures { result ≡ may_use s carry_len chunk_len }
 {

@@ -1,5 +1,5 @@
 -- Laws of the sum: one byte more, none left, and two parts joined.
-use Rattle.std.proofs.Common.{◌≡◌, ℕ, suc, ◌+◌, ◌-◌, ◌<◌, ◌≤◌, List, [], ◌∷◌, ◌++◌, length, get_or, take, drop, sym, refl, ◌∙◌, arith, length-drop, take-append-drop, drop_of_length-le, take_all, drop-cons, drop-drop}
+use Rattle.std.proofs.Common.{◌≡◌, ℕ, suc, ◌<◌, ◌≤◌, List, [], ◌∷◌, ◌++◌, length, get_or, drop, refl, drop_of_length-le, drop-cons}
 use Rattle.sum.specs.declared.Sums.{Sums}
 use Rattle.sum.specs.Sum.{add_byte, sum_on}
 
@@ -15,12 +15,3 @@ pub sum_append : (t : Sums) (a b : List ℕ) → sum_on t (a ++ b) ≡ sum_on (s
 unfolding sum_on
 sum_append t [] b = refl
 sum_append t (x ∷ a) b = sum_append (add_byte t x) a b
-
--- a block of n bytes at i, then those behind it; and all from i on, as the code lends them
-pub sum_block : (t : Sums) (l : List ℕ) (i n : ℕ) → sum_on (sum_on t (take n (drop i l))) (drop (i + n) l) ≡ sum_on t (drop i l)
-sum_block t l i n =
-    let e : take n (drop i l) ++ drop (i + n) l ≡ drop i l = rw (← drop-drop n i l) (take-append-drop n (drop i l)) in
-    sym (sum_append t (take n (drop i l)) (drop (i + n) l)) ∙ rw e
-
-pub rest_is : (l : List ℕ) (i : ℕ) → take (length l - i) (drop i l) ≡ drop i l
-rest_is l i = take_all (length l - i) (drop i l) (simp length-drop (omega arith))

@@ -23,26 +23,24 @@ pub fn update(from: Sums, bytes: &[u8]) -> Sums
     ensures { result ≡ sum_on from bytes.now }
 {
     let mut sums = from;
-    let mut i = 0;
-    while bytes.len() - i >= 32 {
-        let e = i + 32;
-        sums = run_over(sums, &bytes[i..e]);
-        i = e;
+    let mut rest = bytes;
+    while let Some((block, behind)) = rest.split_first_chunk::<32>() {
+        sums = run_over(sums, block);
+        rest = behind;
     }
-    run_over(sums, &bytes[i..])
+    run_over(sums, rest)
 }
 
 // Byte by byte: for each, a = a + byte and b = b + a.
+#[tactic(auto, using(crate::proofs::Laws::sum_next, crate::proofs::Laws::sum_end))]
 fn run_over(from: Sums, bytes: &[u8]) -> Sums
     ensures { result ≡ sum_on from bytes.now }
 {
     let mut a = from.a;
     let mut b = from.b;
-    let mut i = 0;
-    while i < bytes.len() {
-        a = std::num::wrapping_add_u8(a, bytes[i]);
-        b = std::num::wrapping_add_u8(b, a);
-        i += 1;
+    for byte in bytes {
+        a = a.wrapping_add(*byte);
+        b = b.wrapping_add(a);
     }
     Sums { a, b }
 }
@@ -51,5 +49,5 @@ fn run_over(from: Sums, bytes: &[u8]) -> Sums
 pub fn word(low: u8, high: u8) -> u16
     ensures { result ≡ pair_of low high }
 {
-    (low as u16) + 256 * (high as u16)
+    u16::from_le_bytes([low, high])
 }

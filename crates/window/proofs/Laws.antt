@@ -8,16 +8,14 @@ use native.Mathlib.Omega.{arith}
 use lib.ListN.{length, get_or, take, drop, length-drop, length-append, take-append-drop, drop_of_length-le, get_or-append}
 use lib.Seq.{drop-cons, drop-drop, get_or-drop, get_or-append-add, length-take-le, take_all, drop-append-le, drop-append-add}
 use lib.Dec.{eqb}
-use Rattle.std.proofs.Common.{◌⊎◌, inl, inr, cond, not, nat_lt, position, Option, Some, None, MatchOption}
-use Rattle.std.proofs.lemmas.Bool.{cases_lt}
+use Rattle.std.proofs.Common.{Some, None}
 use Rattle.std.proofs.Math.Seq.{drop-append_seam}
-use Rattle.std.specs.List.{list_any, position_or_len}
-use borrow.Author.Tests.{ltb-false}
+use Rattle.std.specs.List.{list_any}
 use Rattle.window.specs.Pick.{pick}
 use Rattle.window.proofs.Pick.{by_pick}
 use Rattle.window.specs.Sync.{is_sync, first}
 use Rattle.window.specs.EndMark.{end_mark}
-use Rattle.window.specs.Search.{is, syncs_of, told, StopsBy}
+use Rattle.window.specs.Search.{is, syncs_of, told}
 use Rattle.window.specs.declared.Mode.{Mode, TheVariants.{One, Two, Three}}
 use Rattle.window.specs.declared.Needle.TheVariants.{UbxRtcm, UbxRtcmNmea}
 
@@ -152,72 +150,6 @@ module _ (t : ℕ → Bool) where
       let d : drop (i - j) (drop j l) ≡ drop i l = drop-drop (i - j) j l ∙ ap (λ (k : ℕ). drop k l) (add-sub_of_le p) in
       omega (arith, rw d at s)
 
-  -- ---- bytes looked at one by one, up to the first or to n
-
-  -- the first, in std's words
-  first_position : (l : List ℕ) → position_or_len t l ≡ first t l
-  unfolding first pick
-  first_position [] = refl
-  first_position (x ∷ l) = go (t x) (first_position l)
-    where
-      go : (u : Bool) → position_or_len t l ≡ first t l → cond (not u) (1 + position_or_len t l) 0 ≡ pick u 0 (suc (first t l))
-      go true e = refl
-      go false e = omega (arith, e)
-
-  position_first : (l : List ℕ) → MatchOption (position t l) (first t l ≡ length l) (λ i. first t l ≡ i)
-  position_first l = go (nat_lt (position_or_len t l) (length l)) refl
-    where
-      go : (u : Bool) → nat_lt (position_or_len t l) (length l) ≡ u → MatchOption (cond u (Some (position_or_len t l)) None) (first t l ≡ length l) (λ i. first t l ≡ i)
-      go true e = sym (first_position l)
-      go false e = omega (arith, ltb-false _ _ e, first_position l, first_le l)
-
-  stops_by : (l : List ℕ) (i n f : ℕ) → i ≤ n → n ≤ length l → first t (take (n - i) (drop i l)) ≡ f → StopsBy t l i n (i + f)
-  stops_by l i n f h m e = go (cases_lt (first t b) (length b))
-    where
-      b : List ℕ
-      b = take (n - i) (drop i l)
-
-      d : List ℕ
-      d = drop (n - i) (drop i l)
-
-      all : drop i l ≡ b ++ d
-      all = sym (take-append-drop (n - i) (drop i l))
-
-      long : length b ≡ n - i
-      long = length-take-le (n - i) (drop i l) (simp length-drop (omega arith))
-
-      go : (first t b < length b) ⊎ (length b ≤ first t b) → StopsBy t l i n (i + f)
-      go (inl s) =
-          let one : first t (drop i l) ≡ f = ap (λ (z : List ℕ). first t z) all ∙ first_left b d s ∙ e in
-          let skip = rw drop-drop at (first_skip (drop i l) f (omega (arith, one))) in
-          record {
-            past = record { low = omega arith; high = omega (arith, long, e); same = omega (arith, skip) };
-            within = omega (arith, long, e);
-            there = inr (omega (arith, one, skip));
-          }
-      go (inr s) =
-          let ends : f ≡ n - i = omega (arith, long, e, first_le b) in
-          let right : first t (drop i l) ≡ n - i + first t (drop (i + (n - i)) l) = ap (λ (z : List ℕ). first t z) all ∙ first_right b d s ∙ rw (long, drop-drop) in
-          record {
-            past = record { low = omega arith; high = omega (arith, ends); same = rw ends (omega (arith, right)) };
-            within = omega (arith, ends);
-            there = inl (omega (arith, ends));
-          }
-
-  pub position_stops : (l : List ℕ) (i n : ℕ) (o : Option ℕ) → i ≤ n → n ≤ length l → o ≡ position t (take (n - i) (drop i l))
-      → MatchOption o (StopsBy t l i n n) (λ f. StopsBy t l i n (i + f))
-  position_stops l i n o h m e = rw e (go (position t (take (n - i) (drop i l))) (position_first (take (n - i) (drop i l))))
-    where
-      b : List ℕ
-      b = take (n - i) (drop i l)
-
-      go : (o : Option ℕ) → MatchOption o (first t b ≡ length b) (λ f. first t b ≡ f) → MatchOption o (StopsBy t l i n n) (λ f. StopsBy t l i n (i + f))
-      go None f =
-          let long : length b ≡ n - i = length-take-le (n - i) (drop i l) (simp length-drop (omega arith)) in
-          let ends : i + (n - i) ≡ n = omega arith in
-          rw ends at (stops_by l i n (n - i) h m (f ∙ long))
-      go (Some k) f = stops_by l i n k h m f
-
 -- from k on: what is found in a part, and in two lists read as one
 module _ (t : ℕ → Bool) where
   pub first_part : (l : List ℕ) (k r : ℕ) → r ≡ first t (take (length l - k) (drop k l)) → (r ≡ first t (drop k l)) × (r ≤ length l - k)
@@ -237,8 +169,11 @@ module _ (t : ℕ → Bool) where
     pub found_right : length a ≤ k → first t (drop k (a ++ b)) ≡ first t (drop (k - length a) b)
     found_right h = rw (← drop_right a b k h)
 
+-- what is found lies in the first list, in the second, or in neither
+pub ruleset in_two = (first_le, first_part, found_left, found_over, found_right)
+
 -- of two tests
-pub any_or : (p q : ℕ → Bool) (l : List ℕ) → list_any (λ (x : ℕ). p x || q x) l ≡ (list_any p l || list_any q l)
+any_or : (p q : ℕ → Bool) (l : List ℕ) → list_any (λ (x : ℕ). p x || q x) l ≡ (list_any p l || list_any q l)
 any_or p q [] = refl
 any_or p q (x ∷ l) = rw (any_or p q l) (or_swap (p x) (q x) (list_any p l) (list_any q l))
   where

@@ -35,7 +35,7 @@ pub enum Mode {
 }
 
 // What a search looks for: the sync bytes of a mode, or CR. It is no closure: against one that tests two or three bytes, a block's
-// bytes are compared one by one, with ten times the instructions. A trait of this, with a type for each, says no less.
+// bytes are compared one by one, which takes ten times the instructions. A trait, with a type for each, is no plainer.
 #[derive(Clone, Copy)]
 enum Needle {
     Ubx,
@@ -75,7 +75,7 @@ pub fn is_sync(mode: Mode, x: u8) -> bool
         || match mode {
             Mode::One(_) => false,
             Mode::Two(_) => x == RTCM_SYNC_CHAR,
-            Mode::Three(_) => x == RTCM_SYNC_CHAR || x == NMEA_SYNC_CHAR,
+            Mode::Three(_) => matches!(x, RTCM_SYNC_CHAR | NMEA_SYNC_CHAR),
         }
 }
 
@@ -107,8 +107,8 @@ fn tells(needle: Needle, x: u8) -> bool
 {
     match needle {
         Needle::Ubx => x == UBX_SYNC_CHAR_1,
-        Needle::UbxRtcm => x == UBX_SYNC_CHAR_1 || x == RTCM_SYNC_CHAR,
-        Needle::UbxRtcmNmea => x == UBX_SYNC_CHAR_1 || x == RTCM_SYNC_CHAR || x == NMEA_SYNC_CHAR,
+        Needle::UbxRtcm => matches!(x, UBX_SYNC_CHAR_1 | RTCM_SYNC_CHAR),
+        Needle::UbxRtcmNmea => matches!(x, UBX_SYNC_CHAR_1 | RTCM_SYNC_CHAR | NMEA_SYNC_CHAR),
         Needle::Cr => x == NMEA_END_CHAR_1,
     }
 }
@@ -129,7 +129,7 @@ fn any(needle: Needle, s: &[u8]) -> bool
 }
 
 // Past whole blocks of 64 bytes, from the start, that have none of what is looked for. The size is written out, here and below, so
-// that a block's bytes are compared many at a time. One function for both sizes costs each search 3 to 6 instructions more.
+// that a block's bytes are compared many at a time. One function for both sizes, with N, takes some 5 instructions more a search.
 fn past_64(needle: Needle, s: &[u8]) -> usize
     ensures { PastNone (told needle) s.now 0 result }
 {
@@ -162,20 +162,24 @@ fn past_16(needle: Needle, s: &[u8], from: usize) -> usize
     i
 }
 
-// From `from` on past bytes that are not looked for, byte by byte, up to `to`.
+// From `from` on past bytes that are not looked for, byte by byte, up to `to`. `position` takes up to 5 instructions more.
+#[tactic(auto, using(crate::proofs::Laws::first_here))]
 fn past_bytes(needle: Needle, s: &[u8], from: usize, to: usize) -> usize
     requires { (from ≤ to) × (to ≤ length s.now) }
     ensures { StopsBy (told needle) s.now from to result }
 {
-    match s[from..to].iter().position(|x| tells(needle, *x)) {
-        Some(i) => from + i,
-        None => to,
+    for i in from..to {
+        if tells(needle, s[i]) {
+            return i;
+        }
     }
+    to
 }
 
 // The place of the first byte of s that is looked for, or its length. Few bytes are looked at one by one. Of more, the blocks that have
 // none are passed; in the first block five bytes are looked at by themselves, since what is looked for is often near: behind the three
 // bytes of a parity, or the four that are left of a false head.
+#[tactic(auto, using(crate::proofs::Laws::first_end))]
 fn find_in(needle: Needle, s: &[u8]) -> usize
     ensures { result ≡ first (told needle) s.now }
 {
@@ -198,6 +202,7 @@ fn find_in(needle: Needle, s: &[u8]) -> usize
 }
 
 // The place of the first sync byte of s, or its length where there is none.
+#[tactic(auto, using(crate::proofs::Laws::told_syncs, crate::proofs::Laws::first_le))]
 pub fn sync_in(mode: Mode, s: &[u8]) -> usize
     ensures value { result ≡ first_sync mode s.now }
     ensures upper_bound { result ≤ length s.now }
@@ -238,6 +243,7 @@ impl<'a> Window<'a> {
     }
 
     // The place of the first byte from k on that is looked for, or the window's length where there is none.
+    #[tactic(auto, using(crate::proofs::Laws::in_two))]
     fn find(self, needle: Needle, k: usize) -> usize
         requires { k ≤ width self }
         ensures value { result ≡ k + first (told needle) (drop k (bytes self.entry)) }
@@ -256,6 +262,7 @@ impl<'a> Window<'a> {
     }
 
     // The place of the first sync byte from k on, or the window's length where there is none.
+    #[tactic(auto, using(crate::proofs::Laws::told_syncs))]
     pub fn find_sync(self, mode: Mode, k: usize) -> usize
         requires { k ≤ width self }
         ensures value { result ≡ k + first_sync mode (drop k (bytes self.entry)) }

@@ -2,7 +2,7 @@
 #![tactic(auto)]
 
 ghost use Rattle.std.specs.Prelude.{◌≡◌, ◌≤◌, slice_index};
-ghost use Rattle.state.specs.Refusals.{leave_no, refusal_no};
+ghost use Rattle.state.specs.Refusals.{leave_no};
 ghost use Rattle.framer.specs.Answers.{side_no};
 ghost use Rattle.framer.specs.Step.{frame_at};
 ghost use Rattle.words.specs.Words.{mode_no, open_no, read_mode, max_or_open_too_big, state_by, read_state, with_state, opened_words, stepped_words, closed_words, frame_words, plain_words, wrong_words, answer_words, report_words};
@@ -14,6 +14,7 @@ use state::{Refusal, State};
 use taking::{Place, Side};
 use window::Mode;
 
+// The numbers for C of a mode, of whether a state is open, and of a side. `From` can't say them: neither type is this crate's.
 fn mode_no(mode: Mode) -> u64
     ensures { result ≡ mode_no mode }
 {
@@ -67,26 +68,12 @@ fn side_no(side: Side) -> u64
     }
 }
 
-pub fn refusal_no(refusal: Refusal) -> u64
-    ensures { result ≡ refusal_no refusal }
-{
-    match refusal {
-        Refusal::CarryTooBig => 1,
-        Refusal::BadState => 2,
-        Refusal::AlreadyOpen => 3,
-        Refusal::NotOpen => 4,
-        Refusal::ChunkTooLong => 5,
-        Refusal::OtherChunk => 6,
-        Refusal::BadPlace => 7,
-    }
-}
-
 pub fn leave_no(leave: Result<(), Refusal>) -> u64
     ensures { result ≡ leave_no leave }
 {
     match leave {
         Ok(()) => 0,
-        Err(refusal) => refusal_no(refusal),
+        Err(refusal) => refusal.into(),
     }
 }
 
@@ -279,7 +266,7 @@ pub fn write_answer(answer: Answer, out: &mut [u64; 8])
         } => write_wrong(out, at, class, id, n, expect, got),
         Answer::NoRoom { at, size } => write_plain(out, 5, at as u64, size as u64, 0),
         Answer::NeedMore => write_plain(out, 6, 0, 0, 0),
-        Answer::Refused(refusal) => write_plain(out, 7, 0, refusal_no(refusal), 0),
+        Answer::Refused(refusal) => write_plain(out, 7, 0, refusal.into(), 0),
         Answer::WrongParity { at, expect, got } => write_plain(
             out,
             8,

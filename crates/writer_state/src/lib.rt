@@ -14,7 +14,7 @@ pub const HEAD: usize = 6;
 pub const AROUND: usize = 8;
 
 // 02's refusals, in its order.
-#[derive(Clone, Copy)]
+#[derive(Clone, Copy, PartialEq, Eq)]
 pub enum Refusal {
     TooLong,
     NoRoom,
@@ -23,96 +23,85 @@ pub enum Refusal {
     Early,
 }
 
-// Whether a call is refused.
-#[derive(Clone, Copy)]
-pub enum Leave {
-    Granted,
-    Denied(Refusal),
-}
-
 // A frame that is being written: the memory's length, the payload's length, and how much of the payload is written.
-#[derive(Clone, Copy)]
+#[derive(Clone, Copy, PartialEq, Eq)]
 pub struct Writer {
     pub room: usize,
     pub len: usize,
     pub written: usize,
 }
 
-fn refusal_no(refusal: Refusal) -> u64
-    ensures { result ≡ refusal_no refusal }
-{
-    match refusal {
-        Refusal::TooLong => 1,
-        Refusal::NoRoom => 2,
-        Refusal::BadState => 3,
-        Refusal::PieceTooLong => 4,
-        Refusal::Early => 5,
+// A refusal's number in 02's order.
+impl From<Refusal> for u64 {
+    ghost from_gives = { λ refusal n. n ≡ refusal_no refusal };
+
+    fn from(refusal: Refusal) -> u64 {
+        match refusal {
+            Refusal::TooLong => 1,
+            Refusal::NoRoom => 2,
+            Refusal::BadState => 3,
+            Refusal::PieceTooLong => 4,
+            Refusal::Early => 5,
+        }
     }
 }
 
-// The refusal's number in 02's order, and 0 where there is none.
-pub fn leave_no(leave: Leave) -> u64
+// The refusal's number, and 0 where there is none.
+pub fn leave_no(leave: Result<(), Refusal>) -> u64
     ensures { result ≡ leave_no leave }
 {
     match leave {
-        Leave::Granted => 0,
-        Leave::Denied(refusal) => refusal_no(refusal),
+        Ok(()) => 0,
+        Err(refusal) => refusal.into(),
     }
 }
 
 // Beginning in so much room: refusal 1, then 2.
-pub fn may_begin(room: usize, len: usize) -> Leave
+#[tactic(auto, unfolding(crate::specs::Refusals::may_begin, window::specs::Pick::pick))]
+pub fn may_begin(room: usize, len: usize) -> Result<(), Refusal>
     ensures { result ≡ may_begin room len }
 {
     if LONGEST < len {
-        return Leave::Denied(Refusal::TooLong);
+        return Err(Refusal::TooLong);
     }
     if room < len + AROUND {
-        return Leave::Denied(Refusal::NoRoom);
+        return Err(Refusal::NoRoom);
     }
-    Leave::Granted
+    Ok(())
 }
 
 // Refusal 3, over a memory of so many bytes. Each test keeps the sums of the next from wrapping.
+#[tactic(auto, unfolding(crate::specs::Refusals::is_bad, window::specs::Pick::pick))]
 fn is_bad(w: Writer, room: usize) -> bool
     ensures { result ≡ is_bad w room }
 {
-    if room != w.room {
-        return true;
-    }
-    if LONGEST < w.len {
-        return true;
-    }
-    if w.room < w.len + AROUND {
-        return true;
-    }
-    w.len < w.written
+    room != w.room || LONGEST < w.len || w.room < w.len + AROUND || w.len < w.written
 }
 
-// A piece of n bytes: refusal 3, then 4. The piece goes to `at`, and the payload ends at `end`.
-pub fn may_add(w: Writer, room: usize, n: usize) -> Leave
+// A piece of n bytes: refusal 3, then 4, where less than that is left of the payload.
+#[tactic(auto, using(crate::proofs::Granted::sound_of), unfolding(crate::specs::Refusals::may_add, window::specs::Pick::pick))]
+pub fn may_add(w: Writer, room: usize, n: usize) -> Result<(), Refusal>
     ensures { result ≡ may_add w room n }
 {
     if is_bad(w, room) {
-        return Leave::Denied(Refusal::BadState);
+        return Err(Refusal::BadState);
     }
-    let at = w.written + HEAD;
-    let end = w.len + HEAD;
-    if end - at < n {
-        return Leave::Denied(Refusal::PieceTooLong);
+    if w.len - w.written < n {
+        return Err(Refusal::PieceTooLong);
     }
-    Leave::Granted
+    Ok(())
 }
 
 // Finishing: refusal 3, then 5.
-pub fn may_finish(w: Writer, room: usize) -> Leave
+#[tactic(auto, unfolding(crate::specs::Refusals::may_finish, window::specs::Pick::pick))]
+pub fn may_finish(w: Writer, room: usize) -> Result<(), Refusal>
     ensures { result ≡ may_finish w room }
 {
     if is_bad(w, room) {
-        return Leave::Denied(Refusal::BadState);
+        return Err(Refusal::BadState);
     }
     if w.written < w.len {
-        return Leave::Denied(Refusal::Early);
+        return Err(Refusal::Early);
     }
-    Leave::Granted
+    Ok(())
 }

@@ -1,4 +1,5 @@
 // The words in which a writer's state crosses to C. include/orgnevis.h says which word is what.
+// They are read and stored by functions, not by From: a writer and an array of words are both of other crates.
 #![tactic(auto)]
 
 ghost use Rattle.std.specs.Prelude.{◌≡◌};

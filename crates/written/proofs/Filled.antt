@@ -6,11 +6,12 @@ use native.Mathlib.Numerals.{add-four}
 use native.Mathlib.Omega.{arith}
 use lib.ListN.{length, take, drop, length-append, length-drop}
 use lib.Seq.{take-length, take_at, drop-append-add, drop-drop}
+use Rattle.std.specs.Prelude.{Result, Ok, Err, ⊤}
 use Rattle.stream.specs.Runs.{joined}
 use Rattle.stream.specs.Interface.{loop, checksum, summed, frame}
 use Rattle.stream.proofs.Checksum.{checksum_is}
 use Rattle.writer_state.specs.declared.Writer.{Writer}
-use Rattle.writer_state.specs.declared.Leave.{Leave, TheVariants.{Granted, Denied}}
+use Rattle.writer_state.specs.declared.Refusal.{Refusal}
 use Rattle.writer_state.specs.Refusals.{may_begin, may_add, may_finish}
 use Rattle.writer.specs.Writing.{WriteOut, put, state, head, begin_on, beginning, add_on, adding, check, finish_on, finishing}
 use Rattle.writer_state.proofs.Granted.{Fits, grant_begin, Sound, grant_add, finish_granted, grant_finish}
@@ -37,7 +38,7 @@ put_front memory bytes more at e =
 
 -- ---- each call by its leave
 
-module _ (memory : List ℕ) (class id n : ℕ) (l : Leave) where
+module _ (memory : List ℕ) (class id n : ℕ) (l : Result ⊤ Refusal) where
   begin_on_is : may_begin (length memory) n ≡ l → beginning memory class id n ≡ begin_on memory class id n l
   unfolding beginning
   begin_on_is g = rw g
@@ -46,11 +47,11 @@ module _ (memory : List ℕ) (class id n : ℕ) (l : Leave) where
   unfolding beginning
   begin_leave e = sym (leaves (may_begin (length memory) n)) ∙ e
     where
-      leaves : (k : Leave) → (begin_on memory class id n k).result.leave ≡ k
-      leaves Granted = refl
-      leaves (Denied r) = refl
+      leaves : (k : Result ⊤ Refusal) → (begin_on memory class id n k).result.leave ≡ k
+      leaves (Ok tt) = refl
+      leaves (Err r) = refl
 
-module _ (w : Writer) (m : List ℕ) (l : Leave) where
+module _ (w : Writer) (m : List ℕ) (l : Result ⊤ Refusal) where
   add_on_is : (p : List ℕ) → may_add w (length m) (length p) ≡ l → adding w m p ≡ add_on w m p l
   unfolding adding
   add_on_is p g = rw g
@@ -59,9 +60,9 @@ module _ (w : Writer) (m : List ℕ) (l : Leave) where
   unfolding adding
   add_leave p e = sym (leaves (may_add w (length m) (length p))) ∙ e
     where
-      leaves : (k : Leave) → (add_on w m p k).result.leave ≡ k
-      leaves Granted = refl
-      leaves (Denied r) = refl
+      leaves : (k : Result ⊤ Refusal) → (add_on w m p k).result.leave ≡ k
+      leaves (Ok tt) = refl
+      leaves (Err r) = refl
 
   finish_on_is : may_finish w (length m) ≡ l → finishing w m ≡ finish_on w m l
   unfolding finishing
@@ -71,9 +72,9 @@ module _ (w : Writer) (m : List ℕ) (l : Leave) where
   unfolding finishing
   finish_leave e = sym (leaves (may_finish w (length m))) ∙ e
     where
-      leaves : (k : Leave) → (finish_on w m k).result.leave ≡ k
-      leaves Granted = refl
-      leaves (Denied r) = refl
+      leaves : (k : Result ⊤ Refusal) → (finish_on w m k).result.leave ≡ k
+      leaves (Ok tt) = refl
+      leaves (Err r) = refl
 
 -- ---- in the middle of a run
 
@@ -84,7 +85,7 @@ module _ (memory : List ℕ) (class id n : ℕ) where
     bytes : m ≡ front (head class id n ++ P) memory
 
   -- a granted piece
-  more : (P p : List ℕ) (w : Writer) (m : List ℕ) → Holds P w m → adding w m p ≡ add_on w m p Granted → Holds (P ++ p) (adding w m p).result.state (adding w m p).memory
+  more : (P p : List ℕ) (w : Writer) (m : List ℕ) → Holds P w m → adding w m p ≡ add_on w m p (Ok tt) → Holds (P ++ p) (adding w m p).result.state (adding w m p).memory
   more P p w m h a =
       let at : 6 + length P ≡ length (head class id n ++ P) = omega arith in
       record {
@@ -94,10 +95,10 @@ module _ (memory : List ℕ) (class id n : ℕ) where
 
   filled : (P : List ℕ) {ps : List (List ℕ)} {w v : Writer} {m after : List ℕ} → Fills w m ps v after → Holds P w m → Holds (P ++ joined ps) v after
   filled P done h = rw append-nil h
-  filled P (added {w} {v} {m} {after} {p} {ps} e f) h = rw append_assoc at (filled (P ++ p) f (more P p w m h (add_on_is w m Granted p (add_leave w m Granted p e))))
-  filled P {w = w} {m = m} (not_added p r e f) h = filled P f (rw (add_on_is w m (Denied r) p (add_leave w m (Denied r) p e)) h)
-  filled P {m = m} (not_begun c i k r e f) h = filled P f (rw (begin_on_is m c i k (Denied r) (begin_leave m c i k (Denied r) e)) h)
-  filled P {w = w} {m = m} (not_finished r e f) h = filled P f (rw (finish_on_is w m (Denied r) (finish_leave w m (Denied r) e)) h)
+  filled P (added {w} {v} {m} {after} {p} {ps} e f) h = rw append_assoc at (filled (P ++ p) f (more P p w m h (add_on_is w m (Ok tt) p (add_leave w m (Ok tt) p e))))
+  filled P {w = w} {m = m} (not_added p r e f) h = filled P f (rw (add_on_is w m (Err r) p (add_leave w m (Err r) p e)) h)
+  filled P {m = m} (not_begun c i k r e f) h = filled P f (rw (begin_on_is m c i k (Err r) (begin_leave m c i k (Err r) e)) h)
+  filled P {w = w} {m = m} (not_finished r e f) h = filled P f (rw (finish_on_is w m (Err r) (finish_leave w m (Err r) e)) h)
 
 -- ---- the finish
 
@@ -120,14 +121,14 @@ sealed memory class id P =
 
 pub only_the_frame : OnlyTheFrame
 only_the_frame memory class id n b pieces w after f e =
-    let g = begin_on_is memory class id n Granted (begin_leave memory class id n Granted b) in
+    let g = begin_on_is memory class id n (Ok tt) (begin_leave memory class id n (Ok tt) b) in
     let h : Holds memory class id n (joined pieces) w after = filled memory class id n [] f (record { is = rw g; bytes = rw g }) in
-    let d = finish_leave w after Granted e in
+    let d = finish_leave w after (Ok tt) e in
     let s = finish_granted w (length after) d in
     let so_far : w.written ≡ length (joined pieces) = ap (λ (x : Writer). x.written) h.is in
     let named : w.len ≡ n = ap (λ (x : Writer). x.len) h.is in
     let count : length (joined pieces) ≡ n = omega (arith, s.0.counts, s.1) in
-    (count, rw (finish_on_is w after Granted d, h.is, h.bytes, ← count) (sealed memory class id (joined pieces)))
+    (count, rw (finish_on_is w after (Ok tt) d, h.is, h.bytes, ← count) (sealed memory class id (joined pieces)))
 
 -- ---- a run in which every call is granted
 
@@ -138,27 +139,27 @@ module _ (memory : List ℕ) (class id n : ℕ) (fits : Fits (length memory) n) 
       let room : length (front X memory) ≡ length memory = length_front X memory (omega (arith, fits.holds)) in
       rw (h.is, h.bytes) (record { rooms = room; fits = fits; counts = l })
 
-  taken : (P : List ℕ) (ps : List (List ℕ)) (o : WriteOut) → o.result.leave ≡ Granted → Holds memory class id n P o.result.state o.memory
+  taken : (P : List ℕ) (ps : List (List ℕ)) (o : WriteOut) → o.result.leave ≡ Ok tt → Holds memory class id n P o.result.state o.memory
       → length (P ++ joined ps) ≡ n → AllGranted o ps
   taken P [] o e h c =
       let w = o.result.state in
       let l : length P ≡ n = rw append-nil at c in
       let all : w.len ≤ w.written = rw h.is (omega arith) in
-      (e, rw (finish_on_is w o.memory Granted (grant_finish w (length o.memory) (holds_sound P w o.memory h (omega arith)) all)))
+      (e, rw (finish_on_is w o.memory (Ok tt) (grant_finish w (length o.memory) (holds_sound P w o.memory h (omega arith)) all)))
   taken P (p ∷ ps) o e h c =
       let w = o.result.state in
       let m = o.memory in
       let l : length P + length p ≤ n = omega (arith, length-append P p, length-append (P ++ p) (joined ps), ap length (append_assoc P p (joined ps))) in
       let room : w.written + length p ≤ w.len = rw h.is l in
-      let g : may_add w (length m) (length p) ≡ Granted = grant_add w (length m) (length p) (holds_sound P w m h (omega arith)) room in
-      let a = add_on_is w m Granted p g in
+      let g : may_add w (length m) (length p) ≡ Ok tt = grant_add w (length m) (length p) (holds_sound P w m h (omega arith)) room in
+      let a = add_on_is w m (Ok tt) p g in
       (e, taken (P ++ p) ps (adding w m p) (rw a) (more memory class id n P p w m h a) (rw append_assoc c))
 
 pub every_cutting_is_taken : EveryCuttingIsTaken
 every_cutting_is_taken memory class id pieces short room =
     let n = length (joined pieces) in
     let fits : Fits (length memory) n = record { short = short; holds = room } in
-    let g = begin_on_is memory class id n Granted (grant_begin (length memory) n fits) in
+    let g = begin_on_is memory class id n (Ok tt) (grant_begin (length memory) n fits) in
     taken memory class id n fits [] pieces (beginning memory class id n) (rw g) (record { is = rw g; bytes = rw g }) refl
 
 -- such a run fills the memory, and its finish is granted
@@ -166,7 +167,7 @@ record Filled (o : WriteOut) (ps : List (List ℕ)) : Type 0 where
   last : Writer
   after : List ℕ
   fills : Fills o.result.state o.memory ps last after
-  finishes : (finishing last after).result.leave ≡ Granted
+  finishes : (finishing last after).result.leave ≡ Ok tt
   writes : written o ps ≡ (finishing last after).memory
 
 fills_all : (o : WriteOut) (ps : List (List ℕ)) → AllGranted o ps → Filled o ps
@@ -176,7 +177,7 @@ fills_all o (p ∷ ps) g =
     let f = fills_all a ps g.1 in
     record { last = f.last; after = f.after; fills = added (granted ps a g.1) f.fills; finishes = f.finishes; writes = f.writes }
   where
-    granted : (qs : List (List ℕ)) (a : WriteOut) → AllGranted a qs → a.result.leave ≡ Granted
+    granted : (qs : List (List ℕ)) (a : WriteOut) → AllGranted a qs → a.result.leave ≡ Ok tt
     granted [] a h = h.0
     granted (q ∷ qs) a h = h.0
 
@@ -185,5 +186,5 @@ every_cutting_writes_the_frame memory class id pieces short room =
     let n = length (joined pieces) in
     let g = every_cutting_is_taken memory class id pieces short room in
     let f = fills_all (beginning memory class id n) pieces g in
-    let b : (beginning memory class id n).result.leave ≡ Granted = rw (begin_on_is memory class id n Granted (grant_begin (length memory) n (record { short = short; holds = room }))) in
+    let b : (beginning memory class id n).result.leave ≡ Ok tt = rw (begin_on_is memory class id n (Ok tt) (grant_begin (length memory) n (record { short = short; holds = room }))) in
     f.writes ∙ (only_the_frame memory class id n b pieces f.last f.after f.fills f.finishes).1

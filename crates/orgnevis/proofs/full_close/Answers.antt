@@ -20,7 +20,7 @@ returns-in-Err c = let x = c.args in
     let r = closes_is (closing s x.carry.now x.chunk.now) c.close-closed.result _ c.close-closed.ensures in
     let d = sym (ap (λ (o : Closed). o.leave) r.0) ∙ c.in-Err.is in
     let k = close_refused s x.carry.now x.chunk.now _ d in
-    record { state_after = rw (e, k) (sym (same x.state.now s e)); out_after = c.write_report-in-Err.ensures ∙ rw (e, k, c.refusal_no.ensures); carry_after = r.1 ∙ rw e }
+    record { state_after = rw (e, k) (sym (same x.state.now s e)); out_after = c.write_report-in-Err.ensures ∙ rw (e, k, c.into.ensures); carry_after = r.1 ∙ rw e }
 
 pub returns-in-Ok : goal.returns-in-Ok
 unfolding closes

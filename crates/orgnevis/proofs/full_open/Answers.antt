@@ -19,7 +19,7 @@ returns-in-Err c = let x = c.args in
     let e = sym c.read_state.ensures ∙ c.in-Some.is in
     let r = opens_is (opening s x.carry.now x.chunk.now) c.open-opened.result c.open-opened.ensures in
     let d = sym (ap (λ (o : Opened). o.leave) r) ∙ c.in-Err.is in
-    record { value = c.refusal_no.ensures ∙ rw (e, d); state_after = rw (e, open_refused s x.carry.now x.chunk.now _ d) (sym (same x.state.now s e)) }
+    record { value = c.into.ensures ∙ rw (e, d); state_after = rw (e, open_refused s x.carry.now x.chunk.now _ d) (sym (same x.state.now s e)) }
 
 pub returns-in-Ok : goal.returns-in-Ok
 unfolding opens

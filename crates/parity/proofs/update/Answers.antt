@@ -1,11 +1,7 @@
 -- `parity::update` meets its contract: that the table is right is computed here, over all entries.
 use mathlib.Core.Path.{refl}
 use Rattle.parity.specs.Parity.{bits, bits_of, reduce, divide, parity_of, remainders_from}
-use Rattle.parity.proofs.Laws.{on_none}
 use Rattle.parity.proofs.update.Goals as goal
-
-pub returns-then-bytes-eq0 : goal.returns-then-bytes-eq0
-returns-then-bytes-eq0 c = let x = c.args in on_none x.from x.bytes.now c.if-bytes-eq0.true
 
 pub run-requires : goal.run-requires
 unfolding remainders_from parity_of bits_of bits divide reduce

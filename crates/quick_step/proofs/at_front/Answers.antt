@@ -5,14 +5,12 @@ use Rattle.quick_step.proofs.Noise.{empty_waits}
 use Rattle.quick_step.proofs.at_front.Goals as goal
 
 pub returns-then-f-eq0 : goal.returns-then-f-eq0
-returns-then-f-eq0 c = let start = c in
-    let x = start.args in let r = start.requires.ready in
+returns-then-f-eq0 c = let x = c.args in let r = c.requires.ready in
     let empty = first_none x.s x.carry.now x.chunk.now r _ (rw (c.window_of.ensures.carry_left, c.window_of.ensures.chunk_ahead) at c.first_of-f.ensures) c.if-f-eq0.true in
     leaves_by _ _ _ _ _ _ (empty_waits x.s x.carry.now x.chunk.now r empty) (c.wait.ensures x.carry.now x.chunk.now)
 
 pub at_ubx-requires : goal.at_ubx-requires
-at_ubx-requires c = let start = c in
-    let x = start.args in let p = start.requires in let r = p.ready in
+at_ubx-requires c = let x = c.args in let p = c.requires in let r = p.ready in
     let first = rw (c.window_of.ensures.carry_left, c.window_of.ensures.chunk_ahead) at c.first_of-f.ensures in
     let b = first_begins x.s x.carry.now x.chunk.now r _ first in
     let sync = first_sync x.s x.carry.now x.chunk.now r _ first c.if-f-eq0.false p.fact in
@@ -20,8 +18,7 @@ at_ubx-requires c = let start = c in
     record { ready = r; chunk_value = h.2 x.s.cap _ _ _ b; n_bound = h.1 }
 
 pub at_rtcm-requires : goal.at_rtcm-requires
-at_rtcm-requires c = let start = c in
-    let x = start.args in let p = start.requires in let r = p.ready in
+at_rtcm-requires c = let x = c.args in let p = c.requires in let r = p.ready in
     let first = rw (c.window_of.ensures.carry_left, c.window_of.ensures.chunk_ahead) at c.first_of-f.ensures in
     let b = first_begins x.s x.carry.now x.chunk.now r _ first in
     let sync = first_sync x.s x.carry.now x.chunk.now r _ first c.if-f-eq0.false p.fact in

@@ -12,8 +12,7 @@ use Rattle.quick_step.proofs.Noise.{noise_ready, noise_front, noise_passed}
 use Rattle.quick_step.proofs.step_at_once.Goals as goal
 
 pub at_front-requires : goal.at_front-requires
-at_front-requires c = let start = c in
-    let x = start.args in let h = start.requires in let r = h.ready in let there = c.past_noise-there in
+at_front-requires c = let x = c.args in let h = c.requires in let r = h.ready in let there = c.past_noise-there in
     let ready : Ready there.result x.carry.now x.chunk.now = rw there.ensures (noise_ready x.s x.carry.now x.chunk.now r) in
     let plain : has_parity there.result.mode ≡ false = rw there.ensures h.mode_value in
     let front : (width there.result ≡ 0) ⊎ (is_sync there.result.mode (get_or (window there.result x.carry.now x.chunk.now) 0 0) ≡ true) =
@@ -21,7 +20,6 @@ at_front-requires c = let start = c in
     record { ready = ready; mode_value = plain; fact = front }
 
 pub returns : goal.returns
-returns c = let start = c in
-    let x = start.args in let r = start.requires.ready in
+returns c = let x = c.args in let r = c.requires.ready in
     let there = sym c.past_noise-there.ensures in
     rw (noise_passed x.s x.carry.now x.chunk.now r ∙ ap (λ (s : State). step_from s x.carry.now x.chunk.now) there) c.at_front.ensures

@@ -11,26 +11,12 @@ use Rattle.seek.proofs.seek.Goals as goal
 pub loop-skip-init : goal.loop-skip-init
 loop-skip-init c = record { within = omega arith; passed = start }
 
-pub overflow_add-skip : goal.overflow_add-skip
-overflow_add-skip c = let x = c.args in
-    let a = x.window.carry.now in let W = bytes x.window in let k = c.loop-skip.skip in
-    let h : k ≤ length W = simp length-append (omega arith) in
-    let p = pass_on x.mode x.max x.cap (length a) W k c.in-Pass.why h c.loop-skip.invariant.passed (sym c.look_at.ensures ∙ c.in-Pass.is) in
-    omega (arith, simp length-append at p.1, c.far.ensures)
-
 pub find_sync-skip-requires : goal.find_sync-skip-requires
 find_sync-skip-requires c = let x = c.args in
     let a = x.window.carry.now in let W = bytes x.window in let k = c.loop-skip.skip in
     let h : k ≤ length W = simp length-append (omega arith) in
     let p = pass_on x.mode x.max x.cap (length a) W k c.in-Pass.why h c.loop-skip.invariant.passed (sym c.look_at.ensures ∙ c.in-Pass.is) in
     omega (arith, simp length-append at p.1, c.far.ensures)
-
-pub loop-skip-smaller : goal.loop-skip-smaller
-loop-skip-smaller c = let x = c.args in
-    let a = x.window.carry.now in let W = bytes x.window in let k = c.loop-skip.skip in
-    let h : k ≤ length W = simp length-append (omega arith) in
-    let p = pass_on x.mode x.max x.cap (length a) W k c.in-Pass.why h c.loop-skip.invariant.passed (sym c.look_at.ensures ∙ c.in-Pass.is) in
-    omega (arith, p.0, c.find_sync-skip.ensures.value, c.find_sync-skip.ensures.upper_bound, c.far.ensures)
 
 pub loop-skip-preserved : goal.loop-skip-preserved
 loop-skip-preserved c = let x = c.args in

@@ -5,6 +5,5 @@ use Rattle.stamp_lines.proofs.totals.Goals as goal
 
 pub returns : goal.returns
 returns c =
-    let x = c.args in
-    let room : x.at ≤ length x.out.now = omega (arith, c.requires) in
+    let room : c.args.at ≤ length c.args.out.now = omega (arith, c.requires) in
     behind room (behind room (behind room c.tallies-a.ensures.puts c.labelled-b.ensures.puts) c.labelled-c.ensures.puts) c.sized.ensures

@@ -22,7 +22,7 @@ pub returns-in-NeedMore : goal.returns-in-NeedMore
 returns-in-NeedMore c = c.write_plain-in-NeedMore.ensures ∙ rw c.in-NeedMore.is
 
 pub returns-in-Refused : goal.returns-in-Refused
-returns-in-Refused c = c.write_plain-in-Refused.ensures ∙ rw (c.in-Refused.is, c.refusal_no.ensures)
+returns-in-Refused c = c.write_plain-in-Refused.ensures ∙ rw (c.in-Refused.is, c.into.ensures)
 
 pub returns-in-WrongParity : goal.returns-in-WrongParity
 returns-in-WrongParity c = c.write_plain-in-WrongParity.ensures ∙ rw (c.in-WrongParity.is, c.from-in-WrongParity.ensures, c.from-in-WrongParity-2.ensures)

@@ -12,9 +12,6 @@ loop-i-init c =
     let e = c.find-i.ensures.value in
     record { within = c.find-i.ensures.upper_bound; none_before = mark_on W 0 _ e; cr = first_at (is 0x0D) W 0 _ e }
 
-pub loop-i-smaller : goal.loop-i-smaller
-loop-i-smaller c = omega (arith, c.find-i-in-loop-i.ensures.value)
-
 pub loop-i-preserved : goal.loop-i-preserved
 loop-i-preserved c =
     let W = bytes c.args.self in

@@ -1,6 +1,0 @@
--- `lister::list` is safe: what waits stays within the buffer.
-use Rattle.std.proofs.Common.{◌≡◌, ◌≤◌, length}
-use Rattle.lister.proofs.list.Given as goal
-
-abbrev pub invariant-loop : goal.invariant-loop
-invariant-loop g l = (l.now.waiting ≤ length l.out) × (length l.out ≡ length l.fn.out)
