@@ -47,7 +47,11 @@ fn far(why: Why) -> usize
 pub fn first_of<'a>(window: Window<'a>) -> &'a [u8]
     ensures { result.now ≡ first_of window.entry.carry.now window.entry.chunk.now }
 {
-    if window.carry.len() == 0 { window.chunk } else { window.carry }
+    if window.carry.len() == 0 {
+        window.chunk
+    } else {
+        window.carry
+    }
 }
 
 // Rule 2, where one side has the head: the frame that it claims, or why bytes are passed.

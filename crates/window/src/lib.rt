@@ -225,10 +225,15 @@ impl<'a> Window<'a> {
         ensures { result ≡ get_or (bytes self.entry) i 0 }
     {
         let left = self.carry.len();
-        if i < left { self.carry[i] } else { self.chunk[i - left] }
+        if i < left {
+            self.carry[i]
+        } else {
+            self.chunk[i - left]
+        }
     }
 
     // What is left behind the first k bytes.
+    #[tactic(auto, using(crate::proofs::Laws::from, crate::proofs::Laws::drop_two))]
     pub fn rest(self, k: usize) -> Window<'a>
         requires { k ≤ width self }
         ensures value { bytes result ≡ drop k (bytes self.entry) }
