@@ -131,7 +131,7 @@ fn step_well(s: State, carry: &mut [u8], chunk: &[u8]) -> Stepped
     ensures value { result ≡ (step_from s carry.old chunk.now).result }
     ensures carry_after { carry.new ≡ (step_from s carry.old chunk.now).carry }
 {
-    let stop = seek::seek(s.mode, s.max, s.cap, &carry[s.off..s.live], &chunk[s.part..]);
+    let stop = seek::seek(s.mode, s.max, s.cap, state::window_of(s, carry, chunk));
     said(s, carry, chunk, stop.skip, stop.verdict)
 }
 

@@ -1,24 +1,18 @@
--- The slice that the code lends, `&carry[off..live]`, is what is left of the carry, with which the window begins.
-use mathlib.Core.Path.{◌≡◌, sym, ap, ◌∙◌}
+-- What is left of the carry is what the window begins with.
+use mathlib.Core.Path.{◌≡◌, sym, ◌∙◌}
 use mathlib.Core.List.{List}
 use mathlib.Core.Bool.{true}
-use Prim.Native.Nat.{ℕ, ◌+◌, ◌-◌, ◌≤◌, ◌<◌}
+use Prim.Native.Nat.{ℕ, ◌<◌}
 use native.Mathlib.Omega.{arith}
 use native.Mathlib.Nat.{add-zero}
-use lib.ListN.{length, get_or, take, drop, length-append}
+use lib.ListN.{length, get_or, length-append}
 use lib.Seq.{get_or-drop, get_or-take}
-use Rattle.carry.proofs.Laws.{drop_take}
 use Rattle.window.specs.Sync.{is_sync, first_sync}
 use Rattle.window.proofs.Laws.{joined_left, first_here}
 use Rattle.state.specs.declared.State.{State}
 use Rattle.state.specs.Words.{left, ahead, window}
 use Rattle.state.specs.Ready.{Sane}
 use Rattle.state.proofs.Window.{left_length}
-
-pub left_part : (l : List ℕ) (off live : ℕ) → off ≤ live → take (live - off) (drop off l) ≡ drop off (take live l)
-left_part l off live h =
-    let e : live ≡ off + (live - off) = omega arith in
-    sym (ap (λ (n : ℕ). drop off (take n l)) e ∙ drop_take off (live - off) l)
 
 -- where what is left of the carry begins with a sync byte, that is the window's first
 pub syncs_at_once : (s : State) (carry chunk : List ℕ) → Sane s carry chunk → s.off < s.live → is_sync s.mode (get_or carry s.off 0) ≡ true

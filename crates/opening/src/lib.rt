@@ -56,7 +56,7 @@ fn open_well(s: State, carry: &[u8], chunk: &[u8]) -> State
     if s.off < s.live && window::is_sync(s.mode, carry[s.off]) {
         return next;
     }
-    let i = window::find_sync(s.mode, &carry[s.off..s.live], chunk, 0);
+    let i = state::window_of(next, carry, chunk).find_sync(s.mode, 0);
     if i < (s.live - s.off) + chunk.len() {
         return state::drained(next, i);
     }

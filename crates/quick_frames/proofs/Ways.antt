@@ -2,7 +2,7 @@
 use mathlib.Core.Path.{◌≡◌, refl, ap, ◌∙◌}
 use mathlib.Core.Bool.{true, and-false}
 use mathlib.Core.Logic.{◌⊎◌, ⊎_elim, inl, inr}
-use mathlib.Core.List.{List, [], ◌∷◌, ◌++◌}
+use mathlib.Core.List.{List, [], ◌∷◌}
 use Prim.Native.Nat.{ℕ, ◌+◌, ◌-◌, ◌≤◌, ◌<◌}
 use native.Mathlib.Omega.{arith}
 use lib.ListN.{length, get_or, take, drop}
@@ -11,7 +11,6 @@ use Rattle.sum.specs.declared.Sums.{Sums}
 use Rattle.sum.specs.Sum.{sum_of, pair_of}
 use Rattle.window.specs.Pick.{pick}
 use Rattle.window.specs.Sync.{is_sync}
-use Rattle.window.proofs.Laws.{from}
 use Rattle.claim.specs.declared.Kind.{Kind, TheVariants.{Ubx}}
 use Rattle.claim.specs.declared.Tale.TheVariants.{WrongSum}
 use Rattle.claim.specs.declared.Verdict.{Verdict, TheVariants.{Wait, Tell, Hand}}
@@ -27,7 +26,6 @@ use Rattle.state.specs.declared.State.{State}
 use Rattle.state.specs.Words.{left, left_len, ahead, window, width}
 use Rattle.state.specs.Ready.{Ready}
 use Rattle.state.proofs.Window.{left_length, ahead_length, window_length}
-use Rattle.opening.proofs.Slices.{left_part}
 use Rattle.framer.specs.Step.{say, move_of, step_from}
 use Rattle.framer.proofs.Slices.{begins_window}
 use Rattle.framer.proofs.Turns.{says_step}
@@ -36,45 +34,32 @@ some_bytes : (f : List ℕ) → (length f ≡ 0 → ⊥) → 0 < length f
 some_bytes [] h = absurd (h refl)
 some_bytes (x ∷ f) h = omega arith
 
--- ---- the two slices that the code lends
+-- ---- the first side that has bytes
 
 module _ (s : State) (carry chunk : List ℕ) (r : Ready s carry chunk) where
-  abbrev pub slice₁ : List ℕ
-  slice₁ = take (s.live - s.off) (drop s.off carry)
-
-  abbrev pub slice₂ : List ℕ
-  slice₂ = take (length chunk - s.part) (drop s.part chunk)
-
-  -- read as one they are the window, which begins with the first that has bytes
-  pub slices : slice₁ ++ slice₂ ≡ window s carry chunk
-  slices = rw (left_part carry s.off s.live r.sane.offs, from chunk s.part)
-
-  first_is : (f : List ℕ) → f ≡ first_of slice₁ slice₂ → f ≡ first_of (left s carry) (ahead s chunk)
-  first_is f e = rw (left_part carry s.off s.live r.sane.offs, from chunk s.part) at e
-
   pub begins_first : Begins (first_of (left s carry) (ahead s chunk)) (window s carry chunk) (left_len s) (width s)
   begins_first = rw (left_length s carry chunk r.sane, ahead_length s carry chunk r.sane) at (begins_both (left s carry) (ahead s chunk))
 
-  pub first_begins : (f : List ℕ) → f ≡ first_of slice₁ slice₂ → Begins f (window s carry chunk) (left_len s) (width s)
-  first_begins f e = rw (first_is f e) begins_first
+  pub first_begins : (f : List ℕ) → f ≡ first_of (left s carry) (ahead s chunk) → Begins f (window s carry chunk) (left_len s) (width s)
+  first_begins f e = rw e begins_first
 
-  -- and that slice has all that is left of the carry
-  pub first_short : (f : List ℕ) → f ≡ first_of slice₁ slice₂ → left_len s ≤ length f
-  first_short f e = rw (first_is f e, ← left_length s carry chunk r.sane) (go (left s carry))
+  -- and that side has all that is left of the carry
+  pub first_short : (f : List ℕ) → f ≡ first_of (left s carry) (ahead s chunk) → left_len s ≤ length f
+  first_short f e = rw (e, ← left_length s carry chunk r.sane) (go (left s carry))
     where
       go : (a : List ℕ) → length a ≤ length (first_of a (ahead s chunk))
       go [] = omega arith
       go (x ∷ a) = omega arith
 
   -- where it has no bytes there are none; where it has, its first is the window's
-  pub first_none : (f : List ℕ) → f ≡ first_of slice₁ slice₂ → length f ≡ 0 → width s ≡ 0
-  first_none f e z = rw (← left_length s carry chunk r.sane, ← ahead_length s carry chunk r.sane) (go (left s carry) (rw (first_is f e) at z))
+  pub first_none : (f : List ℕ) → f ≡ first_of (left s carry) (ahead s chunk) → length f ≡ 0 → width s ≡ 0
+  first_none f e z = rw (← left_length s carry chunk r.sane, ← ahead_length s carry chunk r.sane) (go (left s carry) (rw e at z))
     where
       go : (a : List ℕ) → length (first_of a (ahead s chunk)) ≡ 0 → length a + length (ahead s chunk) ≡ 0
       go [] h = omega (arith, h)
       go (x ∷ a) h = absurd (omega arith)
 
-  pub first_sync : (f : List ℕ) → f ≡ first_of slice₁ slice₂ → (length f ≡ 0 → ⊥) → (width s ≡ 0) ⊎ (is_sync s.mode (get_or (window s carry chunk) 0 0) ≡ true)
+  pub first_sync : (f : List ℕ) → f ≡ first_of (left s carry) (ahead s chunk) → (length f ≡ 0 → ⊥) → (width s ≡ 0) ⊎ (is_sync s.mode (get_or (window s carry chunk) 0 0) ≡ true)
       → is_sync s.mode (get_or f 0 0) ≡ true
   first_sync f e some front =
       let b = first_begins f e in
@@ -82,9 +67,9 @@ module _ (s : State) (carry chunk : List ℕ) (r : Ready s carry chunk) where
       let w = window_length s carry chunk r.sane in
       ⊎_elim (λ z. absurd (some (omega arith))) (λ h. rw (begins_at f (window s carry chunk) (left_len s) (width s) b 0 (some_bytes f some)) h) front
 
-  -- what that slice has all of lies on one side
-  pub on_first : (f : List ℕ) → f ≡ first_of slice₁ slice₂ → (kind : Kind) → skip kind + size kind ≤ length f → OnOneSide (left_len s) kind
-  on_first f e kind l = rw (left_length s carry chunk r.sane) at (go (left s carry) (rw (first_is f e) at l))
+  -- what that side has all of lies there
+  pub on_first : (f : List ℕ) → f ≡ first_of (left s carry) (ahead s chunk) → (kind : Kind) → skip kind + size kind ≤ length f → OnOneSide (left_len s) kind
+  on_first f e kind l = rw (left_length s carry chunk r.sane) at (go (left s carry) (rw e at l))
     where
       go : (a : List ℕ) → skip kind + size kind ≤ length (first_of a (ahead s chunk)) → (length a ≡ 0) ⊎ (skip kind + size kind ≤ length a)
       go [] h = inl refl
@@ -133,19 +118,18 @@ module _ (x y : ℕ) (got : Sums) (class id n : ℕ) where
 
 module _ (s : State) (carry chunk : List ℕ) (r : Ready s carry chunk) (class id n : ℕ)
     (m : move_of s carry chunk ≡ settled s.cap (left_len s) (window s carry chunk) (claim (Ubx class id n))) where
-  -- on one side, by the bytes of the slice that has all of the frame
-  pub decides_here : (f : List ℕ) → f ≡ first_of (slice₁ s carry chunk r) (slice₂ s carry chunk r) → n + 8 ≤ length f → (got : Sums) → got ≡ sum_of (take (6 + n - 2) (drop 2 f))
+  -- on one side, by the bytes of the side that has all of the frame
+  pub decides_here : (f : List ℕ) → f ≡ first_of (left s carry) (ahead s chunk) → n + 8 ≤ length f → (got : Sums) → got ≡ sum_of (take (6 + n - 2) (drop 2 f))
       → step_from s carry chunk ≡ say s carry chunk (judge_sum (get_or f (6 + n) 0) (get_or f (6 + n + 1) 0) got class id n)
   decides_here f e l got eg =
       says s carry chunk r (Ubx class id n) m _ (frame_judged f (window s carry chunk) (left_len s) (width s) (first_begins s carry chunk r f e) s.cap class id n l)
       ∙ rw eg
 
-  -- on both sides, by those of the two slices read as one
+  -- on both sides, by the window's
   pub decides_across : (x y : ℕ) (got : Sums) → n + 8 ≤ width s → n + 2 ≤ s.cap
-      → x ≡ get_or (slice₁ s carry chunk r ++ slice₂ s carry chunk r) (6 + n) 0 → y ≡ get_or (slice₁ s carry chunk r ++ slice₂ s carry chunk r) (6 + n + 1) 0
-      → got ≡ sum_of (take (6 + n - 2) (drop 2 (slice₁ s carry chunk r ++ slice₂ s carry chunk r)))
+      → x ≡ get_or (window s carry chunk) (6 + n) 0 → y ≡ get_or (window s carry chunk) (6 + n + 1) 0
+      → got ≡ sum_of (take (6 + n - 2) (drop 2 (window s carry chunk)))
       → step_from s carry chunk ≡ say s carry chunk (judge_sum x y got class id n)
   decides_across x y got l room ex ey eg =
-      let all = slices s carry chunk r in
       judges_fitting s carry chunk r (Ubx class id n) m (omega arith) (omega arith)
-      ∙ ap (say s carry chunk) (judged class id n x y got (window s carry chunk) (rw all at ex) (rw all at ey) (rw all at eg))
+      ∙ ap (say s carry chunk) (judged class id n x y got (window s carry chunk) ex ey eg)

@@ -34,18 +34,11 @@ fn ubx_across(
     if !quick_words::has_room(s, claim::UBX_HEADER_LEN, len) {
         return false;
     }
-    let off = s.off;
-    let live = s.live;
-    let part = s.part;
     let check = claim::UBX_HEADER_LEN + n;
-    let got = window::sum_of(
-        &carry[off..live],
-        &chunk[part..],
-        claim::UBX_SYNC_SIZE,
-        check,
-    );
-    let x = window::byte_at(&carry[off..live], &chunk[part..], check);
-    let y = window::byte_at(&carry[off..live], &chunk[part..], check + 1);
+    let window = state::window_of(s, carry, chunk);
+    let got = window.sum_of(claim::UBX_SYNC_SIZE, check);
+    let x = window.byte_at(check);
+    let y = window.byte_at(check + 1);
     if x == got.a && y == got.b {
         let kind = Kind::Ubx { class, id, n };
         quick_words::bring(
@@ -80,10 +73,7 @@ pub fn at_ubx(
     requires n_bound { n < 65536 }
     ensures { Quickly result (step_from s carry.old chunk.now) words.old words.new out.new carry.old carry.new }
 {
-    let off = s.off;
-    let live = s.live;
-    let part = s.part;
-    let w = (live - off) + (s.chunk - part);
+    let w = (s.live - s.off) + (s.chunk - s.part);
     if w < n + 8 {
         if s.cap < w {
             return false;
@@ -91,7 +81,7 @@ pub fn at_ubx(
         quick_words::wait(s, words, out);
         return true;
     }
-    let f = seek::first_of(&carry[off..live], &chunk[part..]);
+    let f = seek::first_of(state::window_of(s, carry, chunk));
     if f.len() < n + 8 {
         return ubx_across(s, words, carry, chunk, out, class, id, n);
     }

@@ -26,10 +26,7 @@ fn at_front(
     requires fact { (width s ≡ 0) ⊎ (is_sync s.mode (get_or (window s carry.old chunk.now) 0 0) ≡ true) }
     ensures { Quickly result (step_from s carry.old chunk.now) words.old words.new out.new carry.old carry.new }
 {
-    let off = s.off;
-    let live = s.live;
-    let part = s.part;
-    let f = seek::first_of(&carry[off..live], &chunk[part..]);
+    let f = seek::first_of(state::window_of(s, carry, chunk));
     if f.len() == 0 {
         quick_words::wait(s, words, out);
         return true;
@@ -48,25 +45,21 @@ fn past_noise(s: State, carry: &[u8], chunk: &[u8]) -> State
     requires { Ready s carry.now chunk.now }
     ensures { result ≡ drain (first_sync s.mode (window s carry.now chunk.now)) s }
 {
-    let mode = s.mode;
-    let off = s.off;
-    let live = s.live;
-    let part = s.part;
-    if off < live {
-        if window::is_sync(mode, carry[off]) {
+    if s.off < s.live {
+        if window::is_sync(s.mode, carry[s.off]) {
             return s;
         }
-        let k = window::find_sync(mode, &carry[off..live], &chunk[part..], 0);
+        let k = state::window_of(s, carry, chunk).find_sync(s.mode, 0);
         return state::drained(s, k);
     }
-    if part < s.chunk {
-        if window::is_sync(mode, chunk[part]) {
+    if s.part < s.chunk {
+        if window::is_sync(s.mode, chunk[s.part]) {
             return s;
         }
-        let k = window::sync_in(mode, &chunk[part..]);
+        let k = window::sync_in(s.mode, &chunk[s.part..]);
         return State {
             used: s.used + k,
-            part: part + k,
+            part: s.part + k,
             ..s
         };
     }

@@ -3,8 +3,9 @@
 // parser.rs, the loops around the heads of the three iterators' `next`.
 #![tactic(auto)]
 
-ghost use Rattle.std.specs.Prelude.{◌≡◌, true, false, Some, List, ◌++◌, ℕ, ◌+◌, ◌≤◌, ◌<◌, length, get_or};
+ghost use Rattle.std.specs.Prelude.{◌≡◌, true, false, Some, List, ℕ, ◌+◌, ◌≤◌, ◌<◌, length, get_or};
 ghost use Rattle.window.specs.Sync.{is_sync, has_parity};
+ghost use Rattle.window.specs.Window.{bytes, width};
 ghost use Rattle.claim.specs.declared.Kind.TheVariants.{Ubx};
 ghost use Rattle.look.specs.Rules.{far, claim, look_ubx, look_rtcm};
 ghost use Rattle.look.specs.Moves.{settled, step_move};
@@ -14,7 +15,7 @@ ghost use Rattle.seek.specs.OneSide.{first_of, Begins, Beside, Tells, told_head,
 use claim::{Kind, UbxHead, Verdict};
 use look::{Sight, Why};
 use sum::Sums;
-use window::Mode;
+use window::{Mode, Window};
 
 // What a head tells that one side of the window has: bytes to pass; a UBX frame that it claims, or an RTCM frame that is read without
 // parity.
@@ -42,11 +43,15 @@ fn far(why: Why) -> usize
     }
 }
 
-// The first slice that has bytes.
-pub fn first_of<'a>(a: &'a [u8], b: &'a [u8]) -> &'a [u8]
-    ensures { result.now ≡ first_of a.now b.now }
+// The first side that has bytes.
+pub fn first_of<'a>(window: Window<'a>) -> &'a [u8]
+    ensures { result.now ≡ first_of window.entry.carry.now window.entry.chunk.now }
 {
-    if a.len() == 0 { b } else { a }
+    if window.carry.len() == 0 {
+        window.chunk
+    } else {
+        window.carry
+    }
 }
 
 // Rule 2, where one side has the head: the frame that it claims, or why bytes are passed.
@@ -90,7 +95,8 @@ fn glance_frame(cap: usize, s: &[u8], b: &[u8], w: usize, head: UbxHead) -> Opti
     if cap < body {
         return None;
     }
-    Some(Sight::Say(look::ubx_judged(s, b, head)))
+    let both = Window { carry: s, chunk: b };
+    Some(Sight::Say(look::ubx_judged(both, head)))
 }
 
 // What one side tells at B5, where it has the head.
@@ -164,41 +170,39 @@ fn glance(mode: Mode, max: u16, cap: usize, s: &[u8], b: &[u8], w: usize) -> Opt
     None
 }
 
-// What the first slice that has bytes tells of what is left of the window after its first k bytes, where it has a head there.
-fn glance_at(mode: Mode, max: u16, cap: usize, a: &[u8], b: &[u8], k: usize) -> Option<Sight>
-    ensures { Tells result (move_at mode max cap (length a.now) (a.now ++ b.now) k) }
+// What the first side that has bytes tells of what is left of the window after its first k bytes, where it has a head there.
+fn glance_at(mode: Mode, max: u16, cap: usize, window: Window, k: usize) -> Option<Sight>
+    ensures { Tells result (move_at mode max cap (length window.entry.carry.now) (bytes window.entry) k) }
 {
-    let s = first_of(a, b);
+    let s = first_of(window);
     if s.len() <= k || s.len() - k < claim::UBX_HEADER_LEN {
         return None;
     }
-    glance(mode, max, cap, &s[k..], b, a.len() + b.len() - k)
+    glance(mode, max, cap, &s[k..], window.chunk, window.len() - k)
 }
 
 // The look at what is left of the window after its first k bytes: at one side's head where that tells, else at both sides.
-fn look_at(mode: Mode, max: u16, cap: usize, a: &[u8], b: &[u8], k: usize) -> Sight
-    requires { k ≤ length a.now + length b.now }
-    ensures { result ≡ move_at mode max cap (length a.now) (a.now ++ b.now) k }
+fn look_at(mode: Mode, max: u16, cap: usize, window: Window, k: usize) -> Sight
+    requires { k ≤ width window }
+    ensures { result ≡ move_at mode max cap (length window.entry.carry.now) (bytes window.entry) k }
 {
-    if let Some(sight) = glance_at(mode, max, cap, a, b, k) {
+    if let Some(sight) = glance_at(mode, max, cap, window, k) {
         return sight;
     }
-    let i = k.min(a.len());
-    let j = k - i;
-    look::look(mode, max, cap, &a[i..], &b[j..])
+    look::look(mode, max, cap, window.rest(k))
 }
 
 // Looks, and passes what is to be passed, until something is to be said. The bytes up to the next sync byte go at once.
-pub fn seek(mode: Mode, max: u16, cap: usize, a: &[u8], b: &[u8]) -> Stop
-    ensures { Stops mode max cap (length a.now) (a.now ++ b.now) result.skip result.verdict }
+pub fn seek(mode: Mode, max: u16, cap: usize, window: Window) -> Stop
+    ensures { Stops mode max cap (length window.entry.carry.now) (bytes window.entry) result.skip result.verdict }
 {
-    let w = a.len() + b.len();
+    let w = window.len();
     let mut skip = 0;
     // A `while`, no `for`: a turn goes on at the next sync byte, not at the next byte.
     while skip < w {
-        match look_at(mode, max, cap, a, b, skip) {
+        match look_at(mode, max, cap, window, skip) {
             Sight::Pass(why) => {
-                skip = window::find_sync(mode, a, b, skip + far(why));
+                skip = window.find_sync(mode, skip + far(why));
             }
             Sight::Say(verdict) => {
                 return Stop { skip, verdict };

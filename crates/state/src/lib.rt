@@ -3,10 +3,11 @@
 #![tactic(auto)]
 
 ghost use Rattle.std.specs.Prelude.{◌≡◌, true, ◌+◌, ◌≤◌};
-ghost use Rattle.state.specs.Words.{width, drain, idle};
+ghost use Rattle.state.specs.Words.{left, ahead, width, drain, idle};
+ghost use Rattle.state.specs.Ready.{Sane};
 ghost use Rattle.state.specs.Refusals.{refusal_no, idle_bad, is_bad, may_open, may_use};
 
-use window::Mode;
+use window::{Mode, Window};
 
 // The longest carry, and the longest chunk.
 pub const LIMIT: usize = 16384;
@@ -224,6 +225,18 @@ pub fn may_use(s: State, carry_len: usize, chunk_len: usize) -> Result<(), Refus
         return Err(Refusal::OtherChunk);
     }
     Ok(())
+}
+
+// The window of a state, over the carry and the chunk that are lent to a call.
+pub fn window_of<'a>(s: State, carry: &'a [u8], chunk: &'a [u8]) -> Window<'a>
+    requires { Sane s carry.now chunk.now }
+    ensures carry_left { result.carry.now ≡ left s carry.now }
+    ensures chunk_ahead { result.chunk.now ≡ ahead s chunk.now }
+{
+    Window {
+        carry: &carry[s.off..s.live],
+        chunk: &chunk[s.part..],
+    }
 }
 
 // The state with k bytes of its window drained.

@@ -2,3 +2,4 @@ pub mod Pick
 pub mod Sync
 pub mod EndMark
 pub mod Search
+pub mod Window

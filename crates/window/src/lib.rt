@@ -1,14 +1,15 @@
-// Looking at the window: what is left of the carry, then what is left of the chunk, lent as two slices and read as one
-// list. Rust: parser/buffer.rs, `DualBuffer`, and constants.rs.
+// Looking at the window: what is left of the carry, then what is left of the chunk, read as one list. Rust: parser/buffer.rs,
+// `DualBuffer`, and constants.rs.
 #![tactic(auto)]
 
-ghost use Rattle.std.specs.Prelude.{◌≡◌, ◌++◌, ◌+◌, ◌-◌, ◌≤◌, ◌<◌, min, length, get_or, take, drop};
+ghost use Rattle.std.specs.Prelude.{◌≡◌, ◌+◌, ◌-◌, ◌≤◌, ◌<◌, min, length, get_or, take, drop};
 ghost use Rattle.std.specs.List.{list_any};
 ghost use Rattle.sum.specs.Sum.{sum_of};
 ghost use Rattle.parity.specs.Parity.{parity_of};
 ghost use Rattle.window.specs.Sync.{has_parity, is_sync, first_sync, first};
 ghost use Rattle.window.specs.EndMark.{end_mark};
 ghost use Rattle.window.specs.Search.{is, syncs_of, told, PastNone, StopsBy};
+ghost use Rattle.window.specs.Window.{bytes, width};
 
 use sum::Sums;
 
@@ -43,6 +44,13 @@ enum Needle {
     Cr,
 }
 
+// What is left of the carry and of the chunk, lent. It is copied into each call: two slices, which stay in registers.
+#[derive(Clone, Copy)]
+pub struct Window<'a> {
+    pub carry: &'a [u8],
+    pub chunk: &'a [u8],
+}
+
 // Whether RTCM frames are read with parity.
 pub fn has_parity(mode: Mode) -> bool
     ensures { result ≡ has_parity mode }
@@ -69,15 +77,6 @@ pub fn is_sync(mode: Mode, x: u8) -> bool
             Mode::Two(_) => x == RTCM_SYNC_CHAR,
             Mode::Three(_) => matches!(x, RTCM_SYNC_CHAR | NMEA_SYNC_CHAR),
         }
-}
-
-// The window's byte at i.
-#[tactic(auto, using(crate::proofs::Laws::joined_left, crate::proofs::Laws::joined_right))]
-pub fn byte_at(a: &[u8], b: &[u8], i: usize) -> u8
-    requires { i < length a.now + length b.now }
-    ensures { result ≡ get_or (a.now ++ b.now) i 0 }
-{
-    if i < a.len() { a[i] } else { b[i - a.len()] }
 }
 
 // Whether x is among the bytes: no way out on the way, so that many are compared at a time. `contains` takes twice the instructions.
@@ -202,35 +201,6 @@ fn find_in(needle: Needle, s: &[u8]) -> usize
     past_bytes(needle, s, late, len)
 }
 
-// The place of the window's first byte from k on that is looked for, or the window's length where there is none.
-#[tactic(auto, using(crate::proofs::Laws::in_two))]
-fn find(needle: Needle, a: &[u8], b: &[u8], k: usize) -> usize
-    requires { k ≤ length a.now + length b.now }
-    ensures value { result ≡ k + first (told needle) (drop k (a.now ++ b.now)) }
-    ensures upper_bound { result ≤ length a.now + length b.now }
-{
-    let la = a.len();
-    if k < la {
-        let i = k + find_in(needle, &a[k..]);
-        if i < la {
-            return i;
-        }
-        return la + find_in(needle, b);
-    }
-    let j = k - la;
-    k + find_in(needle, &b[j..])
-}
-
-// The place of the window's first sync byte from k on, or the window's length where there is none.
-#[tactic(auto, using(crate::proofs::Laws::told_syncs))]
-pub fn find_sync(mode: Mode, a: &[u8], b: &[u8], k: usize) -> usize
-    requires { k ≤ length a.now + length b.now }
-    ensures value { result ≡ k + first_sync mode (drop k (a.now ++ b.now)) }
-    ensures upper_bound { result ≤ length a.now + length b.now }
-{
-    find(syncs(mode), a, b, k)
-}
-
 // The place of the first sync byte of s, or its length where there is none.
 #[tactic(auto, using(crate::proofs::Laws::told_syncs, crate::proofs::Laws::first_le))]
 pub fn sync_in(mode: Mode, s: &[u8]) -> usize
@@ -240,45 +210,111 @@ pub fn sync_in(mode: Mode, s: &[u8]) -> usize
     find_in(syncs(mode), s)
 }
 
-// The sum of the window's bytes from `from` up to, not including, `to`: it runs over the first slice's part, then on over the
-// second's.
-pub fn sum_of(a: &[u8], b: &[u8], from: usize, to: usize) -> Sums
-    requires { (from ≤ to) × (to ≤ length a.now + length b.now) }
-    ensures { result ≡ sum_of (take (to - from) (drop from (a.now ++ b.now))) }
-{
-    let la = a.len();
-    let f = from.min(la);
-    let t = to.min(la);
-    let first = sum::update(sum::new(), &a[f..t]);
-    let start = from - f;
-    let end = to - t;
-    sum::update(first, &b[start..end])
-}
+impl<'a> Window<'a> {
+    // How many bytes the window has.
+    pub fn len(self) -> usize
+        ensures { result ≡ width self.entry }
+    {
+        self.carry.len() + self.chunk.len()
+    }
 
-// The parity of the window's bytes up to, not including, `to`, in the same manner.
-pub fn parity_of(a: &[u8], b: &[u8], to: usize) -> u32
-    requires { to ≤ length a.now + length b.now }
-    ensures { result ≡ parity_of (take to (a.now ++ b.now)) }
-{
-    let t = to.min(a.len());
-    let first = parity::update(parity::new(), &a[..t]);
-    let end = to - t;
-    parity::update(first, &b[..end])
-}
+    // The byte at i.
+    #[tactic(auto, using(crate::proofs::Laws::joined_left, crate::proofs::Laws::joined_right))]
+    pub fn byte_at(self, i: usize) -> u8
+        requires { i < width self }
+        ensures { result ≡ get_or (bytes self.entry) i 0 }
+    {
+        let left = self.carry.len();
+        if i < left {
+            self.carry[i]
+        } else {
+            self.chunk[i - left]
+        }
+    }
 
-// The window's first CR that is followed at once by LF.
-pub fn find_end(a: &[u8], b: &[u8]) -> Option<usize>
-    ensures { result ≡ end_mark 0 (a.now ++ b.now) }
-{
-    let w = a.len() + b.len();
-    let mut i = find(Needle::Cr, a, b, 0);
-    loop {
-        if w <= i + 1 {
-            break None;
+    // What is left behind the first k bytes.
+    #[tactic(auto, using(crate::proofs::Laws::from, crate::proofs::Laws::drop_two))]
+    pub fn rest(self, k: usize) -> Window<'a>
+        requires { k ≤ width self }
+        ensures value { bytes result ≡ drop k (bytes self.entry) }
+        ensures carry_length { length result.carry.now ≡ length self.entry.carry.now - k }
+    {
+        let i = k.min(self.carry.len());
+        let j = k - i;
+        Window {
+            carry: &self.carry[i..],
+            chunk: &self.chunk[j..],
         }
-        if byte_at(a, b, i + 1) == NMEA_END_CHAR_2 {
-            break Some(i);
+    }
+
+    // The place of the first byte from k on that is looked for, or the window's length where there is none.
+    #[tactic(auto, using(crate::proofs::Laws::in_two))]
+    fn find(self, needle: Needle, k: usize) -> usize
+        requires { k ≤ width self }
+        ensures value { result ≡ k + first (told needle) (drop k (bytes self.entry)) }
+        ensures upper_bound { result ≤ width self.entry }
+    {
+        let left = self.carry.len();
+        if k < left {
+            let i = k + find_in(needle, &self.carry[k..]);
+            if i < left {
+                return i;
+            }
+            return left + find_in(needle, self.chunk);
         }
-        i = find(Needle::Cr, a, b, i + 1);
+        let j = k - left;
+        k + find_in(needle, &self.chunk[j..])
+    }
+
+    // The place of the first sync byte from k on, or the window's length where there is none.
+    #[tactic(auto, using(crate::proofs::Laws::told_syncs))]
+    pub fn find_sync(self, mode: Mode, k: usize) -> usize
+        requires { k ≤ width self }
+        ensures value { result ≡ k + first_sync mode (drop k (bytes self.entry)) }
+        ensures upper_bound { result ≤ width self.entry }
+    {
+        self.find(syncs(mode), k)
+    }
+
+    // The sum of the bytes from `from` up to, not including, `to`: it runs over the carry's part, then on over the chunk's.
+    pub fn sum_of(self, from: usize, to: usize) -> Sums
+        requires { (from ≤ to) × (to ≤ width self) }
+        ensures { result ≡ sum_of (take (to - from) (drop from (bytes self.entry))) }
+    {
+        let left = self.carry.len();
+        let f = from.min(left);
+        let t = to.min(left);
+        let first = sum::update(sum::new(), &self.carry[f..t]);
+        let start = from - f;
+        let end = to - t;
+        sum::update(first, &self.chunk[start..end])
+    }
+
+    // The parity of the bytes up to, not including, `to`, in the same manner.
+    pub fn parity_of(self, to: usize) -> u32
+        requires { to ≤ width self }
+        ensures { result ≡ parity_of (take to (bytes self.entry)) }
+    {
+        let t = to.min(self.carry.len());
+        let first = parity::update(parity::new(), &self.carry[..t]);
+        let end = to - t;
+        parity::update(first, &self.chunk[..end])
+    }
+
+    // The first CR that is followed at once by LF.
+    pub fn find_end(self) -> Option<usize>
+        ensures { result ≡ end_mark 0 (bytes self.entry) }
+    {
+        let w = self.len();
+        let mut i = self.find(Needle::Cr, 0);
+        loop {
+            if w <= i + 1 {
+                break None;
+            }
+            if self.byte_at(i + 1) == NMEA_END_CHAR_2 {
+                break Some(i);
+            }
+            i = self.find(Needle::Cr, i + 1);
+        }
     }
 }

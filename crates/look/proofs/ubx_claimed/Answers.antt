@@ -10,12 +10,12 @@ use Rattle.look.proofs.ubx_claimed.Goals as goal
 
 pub ubx_judged-requires : goal.ubx_judged-requires
 ubx_judged-requires c = let x = c.args in
-    omega (arith, hand_whole x.cap (length x.a.now) (length x.a.now + length x.b.now) 6 (x.head.n + 2) (sym c.can_hand.ensures ∙ c.if-can_hand.true))
+    omega (arith, hand_whole x.cap (length x.window.carry.now) (length x.window.carry.now + length x.window.chunk.now) 6 (x.head.n + 2) (rw c.len-w.ensures at (sym c.can_hand.ensures ∙ c.if-can_hand.true)))
 
 pub returns-then-can_hand : goal.returns-then-can_hand
 returns-then-can_hand c = let x = c.args in
-    ap Say c.ubx_judged.ensures ∙ sym (claim_fits x.cap x.a.now x.b.now (Ubx x.head.class x.head.id x.head.n) (sym c.can_hand.ensures ∙ c.if-can_hand.true))
+    ap Say c.ubx_judged.ensures ∙ sym (claim_fits x.cap x.window.carry.now x.window.chunk.now (Ubx x.head.class x.head.id x.head.n) (rw c.len-w.ensures at (sym c.can_hand.ensures ∙ c.if-can_hand.true)))
 
 pub returns : goal.returns
 returns c = let x = c.args in
-    ap Say c.lacks.ensures ∙ sym (claim_lacks x.cap x.a.now x.b.now (Ubx x.head.class x.head.id x.head.n) (sym c.can_hand.ensures ∙ c.if-can_hand.false))
+    ap Say (c.lacks.ensures ∙ rw c.len-w.ensures) ∙ sym (claim_lacks x.cap x.window.carry.now x.window.chunk.now (Ubx x.head.class x.head.id x.head.n) (rw c.len-w.ensures at (sym c.can_hand.ensures ∙ c.if-can_hand.false)))

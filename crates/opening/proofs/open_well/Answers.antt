@@ -1,7 +1,6 @@
--- `opening::open_well` meets its contract: the two slices are the window of the opened state.
-use mathlib.Core.Path.{sym, ap, ◌∙◌}
-use mathlib.Core.List.{List, ◌++◌}
-use Prim.Native.Nat.{ℕ, ◌≤◌, ◌<◌}
+-- `opening::open_well` meets its contract: the search is over the window of the opened state.
+use mathlib.Core.Path.{◌≡◌, sym, ◌∙◌}
+use Prim.Native.Nat.{◌≤◌, ◌<◌}
 use native.Mathlib.Nat.{zero-add}
 use native.Mathlib.Omega.{arith}
 use lib.ListN.{length}
@@ -11,7 +10,7 @@ use Rattle.window.specs.Sync.{first_sync}
 use Rattle.state.specs.Words.{window, width}
 use Rattle.state.proofs.Window.{drain_zero}
 use Rattle.opening.specs.Operations.{noted}
-use Rattle.opening.proofs.Slices.{left_part, syncs_at_once}
+use Rattle.opening.proofs.Slices.{syncs_at_once}
 use Rattle.opening.proofs.open_well.Goals as goal
 
 pub returns-then-is_sync : goal.returns-then-is_sync
@@ -26,7 +25,7 @@ pub returns-then-i-s : goal.returns-then-i-s
 unfolding pick
 returns-then-i-s c = let x = c.args in
     let o = noted x.s (length x.chunk.now) in
-    let i = c.find_sync-i.ensures.value ∙ zero-add _ ∙ ap (λ (l : List ℕ). first_sync x.s.mode (l ++ x.chunk.now)) (left_part x.carry.now x.s.off x.s.live (omega arith)) in
+    let i : c.find_sync-i.result ≡ first_sync x.s.mode (window o x.carry.now x.chunk.now) = c.find_sync-i.ensures.value ∙ rw (zero-add, c.window_of.ensures.carry_left, c.window_of.ensures.chunk_ahead) in
     let h : first_sync x.s.mode (window o x.carry.now x.chunk.now) < width o = rw (← i) (omega arith) in
     c.drained.ensures ∙ rw (lt-ltb _ _ h, i)
 
@@ -34,6 +33,6 @@ pub returns : goal.returns
 unfolding pick
 returns c = let x = c.args in
     let o = noted x.s (length x.chunk.now) in
-    let i = c.find_sync-i.ensures.value ∙ zero-add _ ∙ ap (λ (l : List ℕ). first_sync x.s.mode (l ++ x.chunk.now)) (left_part x.carry.now x.s.off x.s.live (omega arith)) in
+    let i : c.find_sync-i.result ≡ first_sync x.s.mode (window o x.carry.now x.chunk.now) = c.find_sync-i.ensures.value ∙ rw (zero-add, c.window_of.ensures.carry_left, c.window_of.ensures.chunk_ahead) in
     let h : width o ≤ first_sync x.s.mode (window o x.carry.now x.chunk.now) = rw (← i) (omega arith) in
     rw (le-ltb _ _ h)

@@ -25,7 +25,7 @@ ubx_across-requires c = let start = c in
     let x = start.args in let h = start.requires in let r = h.ready in
     let l = c.if-w-n.false in
     let f = c.if-f-n.true in
-    let g = first_short x.s x.carry.now x.chunk.now r _ c.first_of-f.ensures in
+    let g = first_short x.s x.carry.now x.chunk.now r _ (rw (c.window_of.ensures.carry_left, c.window_of.ensures.chunk_ahead) at c.first_of-f.ensures) in
     record { ready = r; chunk_value = h.chunk_value; s_bound = (omega arith, omega arith) }
 
 pub hand-requires : goal.hand-requires
@@ -33,7 +33,7 @@ hand-requires c = let start = c in
     let x = start.args in let r = start.requires.ready in
     let l = c.if-w-n.false in
     let f = c.if-f-n.false in
-    let side = on_first x.s x.carry.now x.chunk.now r _ c.first_of-f.ensures (Ubx x.class x.id x.n) (omega arith) in
+    let side = on_first x.s x.carry.now x.chunk.now r _ (rw (c.window_of.ensures.carry_left, c.window_of.ensures.chunk_ahead) at c.first_of-f.ensures) (Ubx x.class x.id x.n) (omega arith) in
     record { before_value = (refl, refl); off_le_live = (r.sane.offs, (r.sane.parts, r.counts)); kind_bound = (omega arith, side) }
 
 pub returns-then-y-got : goal.returns-then-y-got
@@ -41,11 +41,12 @@ returns-then-y-got c = let start = c in
     let x = start.args in let h = start.requires in let r = h.ready in
     let l = c.if-w-n.false in
     let m = c.if-f-n.false in
-    let first = c.first_of-f in let f = first.result.now in
+    let f = c.first_of-f.result.now in
+    let first = rw (c.window_of.ensures.carry_left, c.window_of.ensures.chunk_ahead) at c.first_of-f.ensures in
     let new = c.new.ensures in
     let sum = c.update-got in
     leaves_by _ _ _ _ _ _
-    (decides_here x.s x.carry.now x.chunk.now r x.class x.id x.n h.chunk_value f first.ensures (omega arith) sum.result (rw new at sum.ensures)
+    (decides_here x.s x.carry.now x.chunk.now r x.class x.id x.n h.chunk_value f first (omega arith) sum.result (rw new at sum.ensures)
     ∙ ap (say x.s x.carry.now x.chunk.now) (sum_right (get_or f (6 + x.n) 0) (get_or f (6 + x.n + 1) 0) sum.result x.class x.id x.n c.if-x-got.true c.if-y-got.true))
     (c.hand.ensures x.carry.now x.chunk.now)
 
@@ -54,13 +55,14 @@ returns c = let start = c in
     let x = start.args in let h = start.requires in let r = h.ready in
     let l = c.if-w-n.false in
     let m = c.if-f-n.false in
-    let first = c.first_of-f in let f = first.result.now in
+    let f = c.first_of-f.result.now in
+    let first = rw (c.window_of.ensures.carry_left, c.window_of.ensures.chunk_ahead) at c.first_of-f.ensures in
     let new = c.new.ensures in let sum = c.update-got in
     let wrong : (get_or f (6 + x.n) 0 ≡ sum.result.a → ⊥) ⊎ (get_or f (6 + x.n + 1) 0 ≡ sum.result.b → ⊥) = elim c.else-x-got.branch [
       | else-x-got-via-then-x-got+else-y-got w ↦ inr w.if-y-got.false
       | else-x-got-via-else-x-got w ↦ inl w.if-x-got.false
     ] in
     leaves_by _ _ _ _ _ _
-    (decides_here x.s x.carry.now x.chunk.now r x.class x.id x.n h.chunk_value f first.ensures (omega arith) sum.result (rw new at sum.ensures)
+    (decides_here x.s x.carry.now x.chunk.now r x.class x.id x.n h.chunk_value f first (omega arith) sum.result (rw new at sum.ensures)
     ∙ ap (say x.s x.carry.now x.chunk.now) (sum_wrong (get_or f (6 + x.n) 0) (get_or f (6 + x.n + 1) 0) sum.result x.class x.id x.n wrong))
     (c.tell_wrong.ensures x.carry.now x.chunk.now)

@@ -18,12 +18,13 @@ returns-then-y-got c = let start = c in
     let x = start.args in let h = start.requires in let r = h.ready in let o = r.sane.lives in let l = h.s_bound in
     let room = c.has_room.ensures c.if-not-has_room.false in
     let p = room.0 in let q = room.1 in
+    let all = c.window_of-window.ensures in
     let sum = c.sum_of-got in
-    let at = c.byte_at-x in
+    let here = c.byte_at-x in
     let next = c.byte_at-y in
     leaves_by _ _ _ _ _ _
-    (decides_across x.s x.carry.now x.chunk.now r x.class x.id x.n h.chunk_value at.result next.result sum.result (omega arith) (omega arith) at.ensures next.ensures sum.ensures
-    ∙ ap (say x.s x.carry.now x.chunk.now) (sum_right at.result next.result sum.result x.class x.id x.n c.if-x-got.true c.if-y-got.true))
+    (decides_across x.s x.carry.now x.chunk.now r x.class x.id x.n h.chunk_value here.result next.result sum.result (omega arith) (omega arith) (rw (all.carry_left, all.chunk_ahead) at here.ensures) (rw (all.carry_left, all.chunk_ahead) at next.ensures) (rw (all.carry_left, all.chunk_ahead) at sum.ensures)
+    ∙ ap (say x.s x.carry.now x.chunk.now) (sum_right here.result next.result sum.result x.class x.id x.n c.if-x-got.true c.if-y-got.true))
     c.bring.ensures
 
 pub tell_wrong-requires : goal.tell_wrong-requires
@@ -35,14 +36,15 @@ returns c = let start = c in
     let x = start.args in let h = start.requires in let r = h.ready in let o = r.sane.lives in let l = h.s_bound in
     let room = c.has_room.ensures c.if-not-has_room.false in
     let p = room.0 in let q = room.1 in
+    let all = c.window_of-window.ensures in
     let sum = c.sum_of-got in
-    let at = c.byte_at-x in
+    let here = c.byte_at-x in
     let next = c.byte_at-y in
-    let wrong : (at.result ≡ sum.result.a → ⊥) ⊎ (next.result ≡ sum.result.b → ⊥) = elim c.else-x-got.branch [
+    let wrong : (here.result ≡ sum.result.a → ⊥) ⊎ (next.result ≡ sum.result.b → ⊥) = elim c.else-x-got.branch [
       | else-x-got-via-then-x-got+else-y-got w ↦ inr w.if-y-got.false
       | else-x-got-via-else-x-got w ↦ inl w.if-x-got.false
     ] in
     leaves_by _ _ _ _ _ _
-    (decides_across x.s x.carry.now x.chunk.now r x.class x.id x.n h.chunk_value at.result next.result sum.result (omega arith) (omega arith) at.ensures next.ensures sum.ensures
-    ∙ ap (say x.s x.carry.now x.chunk.now) (sum_wrong at.result next.result sum.result x.class x.id x.n wrong))
+    (decides_across x.s x.carry.now x.chunk.now r x.class x.id x.n h.chunk_value here.result next.result sum.result (omega arith) (omega arith) (rw (all.carry_left, all.chunk_ahead) at here.ensures) (rw (all.carry_left, all.chunk_ahead) at next.ensures) (rw (all.carry_left, all.chunk_ahead) at sum.ensures)
+    ∙ ap (say x.s x.carry.now x.chunk.now) (sum_wrong here.result next.result sum.result x.class x.id x.n wrong))
     (c.tell_wrong.ensures x.carry.now x.chunk.now)

@@ -6,34 +6,33 @@ use Rattle.window.specs.Sync.{is_sync}
 use Rattle.window.proofs.Laws.{from, first_here, first_end}
 use Rattle.state.proofs.Window.{drain_zero}
 use Rattle.opening.proofs.Slices.{syncs_at_once}
-use Rattle.quick_frames.proofs.Ways.{slices}
 use Rattle.quick_step.proofs.Noise.{window_ahead, drain_ahead}
 use Rattle.quick_step.proofs.past_noise.Goals as goal
 
 pub returns-then-is_sync : goal.returns-then-is_sync
 returns-then-is_sync c = let x = c.args in let r = c.requires in
-    let here = syncs_at_once x.s x.carry.now x.chunk.now r.sane c.if-off-live.true (sym c.is_sync.ensures ∙ c.if-is_sync.true) in
+    let here = syncs_at_once x.s x.carry.now x.chunk.now r.sane c.if-s.true (sym c.is_sync.ensures ∙ c.if-is_sync.true) in
     sym (drain_zero x.s) ∙ rw here
 
-pub returns-then-off-live : goal.returns-then-off-live
-returns-then-off-live c = let x = c.args in let r = c.requires in
-    c.drained.ensures ∙ rw (c.find_sync-k.ensures.value, slices x.s x.carry.now x.chunk.now r, zero-add)
+pub returns-then-s : goal.returns-then-s
+returns-then-s c = let x = c.args in let r = c.requires in
+    c.drained.ensures ∙ rw (c.find_sync-k.ensures.value, c.window_of.ensures.carry_left, c.window_of.ensures.chunk_ahead, zero-add)
 
 pub returns-then-is_sync-2 : goal.returns-then-is_sync-2
 returns-then-is_sync-2 c = let x = c.args in let r = c.requires in let o = r.sane.offs in let l = r.sane.chunks in
-    let n = c.if-off-live.false in let p = c.if-part-s.true in
+    let n = c.if-s.false in let p = c.if-s-2.true in
     let w = window_ahead x.s x.carry.now x.chunk.now r (omega arith) in
-    let here = first_here (is_sync x.s.mode) x.chunk.now x.s.part (omega arith) (sym c.is_sync-then-part-s.ensures ∙ c.if-is_sync-2.true) in
+    let here = first_here (is_sync x.s.mode) x.chunk.now x.s.part (omega arith) (sym c.is_sync-then-s-2.ensures ∙ c.if-is_sync-2.true) in
     sym (drain_zero x.s) ∙ rw (w, here)
 
-pub returns-then-part-s : goal.returns-then-part-s
-returns-then-part-s c = let x = c.args in let r = c.requires in let o = r.sane.offs in
-    let n = c.if-off-live.false in let found = c.sync_in-k in
+pub returns-then-s-2 : goal.returns-then-s-2
+returns-then-s-2 c = let x = c.args in let r = c.requires in let o = r.sane.offs in
+    let n = c.if-s.false in let found = c.sync_in-k in
     let w = window_ahead x.s x.carry.now x.chunk.now r (omega arith) in
     drain_ahead x.s x.carry.now x.chunk.now r (omega arith) found.result ∙ rw (found.ensures.value, from x.chunk.now x.s.part, w)
 
 pub returns : goal.returns
 returns c = let x = c.args in let r = c.requires in let o = r.sane.offs in let l = r.sane.chunks in
-    let n = c.if-off-live.false in let p = c.if-part-s.false in
+    let n = c.if-s.false in let p = c.if-s-2.false in
     let w = window_ahead x.s x.carry.now x.chunk.now r (omega arith) in
     sym (drain_zero x.s) ∙ rw (w, first_end (is_sync x.s.mode) x.chunk.now x.s.part (omega arith))

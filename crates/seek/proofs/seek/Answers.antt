@@ -1,6 +1,6 @@
 -- `seek::seek` meets its contract: turn by turn, the first `skip` bytes are passed in silence.
 use mathlib.Core.Path.{sym, ◌∙◌}
-use mathlib.Core.List.{◌++◌}
+use Rattle.window.specs.Window.{bytes}
 use Prim.Native.Nat.{◌≤◌}
 use native.Mathlib.Omega.{arith}
 use lib.ListN.{length, length-append}
@@ -13,21 +13,21 @@ loop-skip-init c = record { within = omega arith; passed = start }
 
 pub find_sync-skip-requires : goal.find_sync-skip-requires
 find_sync-skip-requires c = let x = c.args in
-    let a = x.a.now in let b = x.b.now in let k = c.loop-skip.skip in
-    let h : k ≤ length (a ++ b) = simp length-append (omega arith) in
-    let p = pass_on x.mode x.max x.cap (length a) (a ++ b) k c.in-Pass.why h c.loop-skip.invariant.passed (sym c.look_at.ensures ∙ c.in-Pass.is) in
+    let a = x.window.carry.now in let W = bytes x.window in let k = c.loop-skip.skip in
+    let h : k ≤ length W = simp length-append (omega arith) in
+    let p = pass_on x.mode x.max x.cap (length a) W k c.in-Pass.why h c.loop-skip.invariant.passed (sym c.look_at.ensures ∙ c.in-Pass.is) in
     omega (arith, simp length-append at p.1, c.far.ensures)
 
 pub loop-skip-preserved : goal.loop-skip-preserved
 loop-skip-preserved c = let x = c.args in
-    let a = x.a.now in let b = x.b.now in let k = c.loop-skip.skip in
-    let h : k ≤ length (a ++ b) = simp length-append (omega arith) in
-    let p = pass_on x.mode x.max x.cap (length a) (a ++ b) k c.in-Pass.why h c.loop-skip.invariant.passed (sym c.look_at.ensures ∙ c.in-Pass.is) in
+    let a = x.window.carry.now in let W = bytes x.window in let k = c.loop-skip.skip in
+    let h : k ≤ length W = simp length-append (omega arith) in
+    let p = pass_on x.mode x.max x.cap (length a) W k c.in-Pass.why h c.loop-skip.invariant.passed (sym c.look_at.ensures ∙ c.in-Pass.is) in
     record { within = c.find_sync-skip.ensures.upper_bound; passed = rw (c.find_sync-skip.ensures.value, c.far.ensures) p.2 }
 
 pub returns : goal.returns
 returns c = let x = c.args in
-    let W = x.a.now ++ x.b.now in
+    let W = bytes x.window in
     let h : length W ≤ c.loop-skip.skip = simp length-append (omega arith) in
     let w : c.loop-skip.skip ≤ length W = simp length-append (omega arith) in
-    record { passed = c.loop-skip.invariant.passed; within = w; there = at_end x.mode x.max x.cap (length x.a.now) W c.loop-skip.skip h }
+    record { passed = c.loop-skip.invariant.passed; within = w; there = at_end x.mode x.max x.cap (length x.window.carry.now) W c.loop-skip.skip h }
