@@ -11,8 +11,9 @@ ghost use Rattle.state.specs.Ready.{Ready};
 ghost use Rattle.framer.specs.Step.{move_of, step_from};
 ghost use Rattle.quick_words.specs.Quickly.{Quickly};
 
-use claim::Kind;
+use claim::{Kind, UbxHead};
 use state::State;
+use sum::Sums;
 
 // A UBX frame that is claimed, and lies on both sides: its sum decides.
 fn ubx_across(
@@ -21,15 +22,14 @@ fn ubx_across(
     carry: &mut [u8],
     chunk: &[u8],
     out: &mut [u64; 8],
-    class: u8,
-    id: u8,
-    n: usize,
+    head: UbxHead,
 ) -> bool
     requires ready { Ready s carry.old chunk.now }
-    requires chunk_value { move_of s carry.old chunk.now ≡ settled s.cap (left_len s) (window s carry.old chunk.now) (claim (Ubx class id n)) }
-    requires s_bound { (left_len s < n + 8) × (n + 8 ≤ width s) }
+    requires chunk_value { move_of s carry.old chunk.now ≡ settled s.cap (left_len s) (window s carry.old chunk.now) (claim (Ubx head.class head.id head.n)) }
+    requires s_bound { (left_len s < head.n + 8) × (head.n + 8 ≤ width s) }
     ensures { Quickly result (step_from s carry.old chunk.now) words.old words.new out.new carry.old carry.new }
 {
+    let UbxHead { class, id, n } = head;
     let len = n + claim::UBX_CHECKSUM_LEN;
     if !quick_words::has_room(s, claim::UBX_HEADER_LEN, len) {
         return false;
@@ -53,7 +53,7 @@ fn ubx_across(
         );
         return true;
     }
-    quick_words::tell_wrong(s, words, out, class, id, n, x, y, got);
+    quick_words::tell_wrong(s, words, out, head, Sums { a: x, b: y }, got);
     true
 }
 
@@ -64,15 +64,14 @@ pub fn at_ubx(
     carry: &mut [u8],
     chunk: &[u8],
     out: &mut [u64; 8],
-    class: u8,
-    id: u8,
-    n: usize,
+    head: UbxHead,
 ) -> bool
     requires ready { Ready s carry.old chunk.now }
-    requires chunk_value { move_of s carry.old chunk.now ≡ settled s.cap (left_len s) (window s carry.old chunk.now) (claim (Ubx class id n)) }
-    requires n_bound { n < 65536 }
+    requires chunk_value { move_of s carry.old chunk.now ≡ settled s.cap (left_len s) (window s carry.old chunk.now) (claim (Ubx head.class head.id head.n)) }
+    requires n_bound { head.n < 65536 }
     ensures { Quickly result (step_from s carry.old chunk.now) words.old words.new out.new carry.old carry.new }
 {
+    let UbxHead { class, id, n } = head;
     let w = (s.live - s.off) + (s.chunk - s.part);
     if w < n + 8 {
         if s.cap < w {
@@ -83,7 +82,7 @@ pub fn at_ubx(
     }
     let f = seek::first_of(state::window_of(s, carry, chunk));
     if f.len() < n + 8 {
-        return ubx_across(s, words, carry, chunk, out, class, id, n);
+        return ubx_across(s, words, carry, chunk, out, head);
     }
     let check = claim::UBX_HEADER_LEN + n;
     let got = sum::update(sum::new(), &f[claim::UBX_SYNC_SIZE..check]);
@@ -95,7 +94,7 @@ pub fn at_ubx(
         quick_words::hand(s, words, out, kind, claim::UBX_HEADER_LEN, len);
         return true;
     }
-    quick_words::tell_wrong(s, words, out, class, id, n, x, y, got);
+    quick_words::tell_wrong(s, words, out, head, Sums { a: x, b: y }, got);
     true
 }
 

@@ -9,7 +9,6 @@ ghost use Rattle.state.specs.Ready.{Ready};
 ghost use Rattle.framer.specs.Step.{step_from};
 ghost use Rattle.quick_words.specs.Quickly.{Quickly};
 
-use claim::UbxHead;
 use seek::Head;
 use state::State;
 
@@ -32,9 +31,7 @@ fn at_front(
         return true;
     }
     match seek::head_of(s.max, f) {
-        Some(Head::Ubx(UbxHead { class, id, n })) => quick_frames::at_ubx(
-            s, words, carry, chunk, out, class, id, n,
-        ),
+        Some(Head::Ubx(head)) => quick_frames::at_ubx(s, words, carry, chunk, out, head),
         Some(Head::Rtcm { n }) => quick_frames::at_rtcm(s, words, carry, chunk, out, n),
         Some(Head::Past(_)) | None => false,
     }

@@ -13,7 +13,7 @@ ghost use Rattle.state.specs.Ready.{Ready};
 ghost use Rattle.framer.specs.Step.{say};
 ghost use Rattle.quick_words.specs.Quickly.{Leaves};
 
-use claim::Kind;
+use claim::{Kind, UbxHead};
 use state::State;
 use sum::Sums;
 use taking::{Place, Side};
@@ -26,20 +26,17 @@ pub fn wait(s: State, words: &mut [u64; 24], out: &mut [u64; 8])
     words::write_plain(out, 6, 0, 0, 0)
 }
 
-// A wrong sum: the received pair x, y, and the computed one.
+// A wrong sum: the received pair, and the computed one.
 pub fn tell_wrong(
     s: State,
     words: &mut [u64; 24],
     out: &mut [u64; 8],
-    class: u8,
-    id: u8,
-    n: usize,
-    x: u8,
-    y: u8,
+    head: UbxHead,
+    expect: Sums,
     got: Sums,
 )
     requires { (s.off ≤ s.live) × ((s.part ≤ s.chunk) × ((2 ≤ width s) × (s.used + 2 ≤ 32768))) }
-    ensures { (carry chunk : List ℕ) → Leaves (say s carry chunk (Tell (WrongSum class id n (pair_of x y) (pair_of got.a got.b)))) words.old words.new out.new carry }
+    ensures { (carry chunk : List ℕ) → Leaves (say s carry chunk (Tell (WrongSum head.class head.id head.n (pair_of expect.a expect.b) (pair_of got.a got.b)))) words.old words.new out.new carry }
 {
     let at = s.used;
     let next = state::drained(s, claim::UBX_SYNC_SIZE);
@@ -47,10 +44,10 @@ pub fn tell_wrong(
     words::write_wrong(
         out,
         at,
-        class,
-        id,
-        n,
-        sum::word(x, y),
+        head.class,
+        head.id,
+        head.n,
+        sum::word(expect.a, expect.b),
         sum::word(got.a, got.b),
     )
 }

@@ -15,8 +15,7 @@ use Rattle.quick_frames.proofs.at_rtcm.Goals as goal
 use Rattle.quick_frames.proofs.at_rtcm.Goals.{then-left-eq0-via-then-left-eq0, then-left-eq0-via-else-left-eq0+then-size-left}
 
 pub returns-then-w-size : goal.returns-then-w-size
-returns-then-w-size c = let start = c in
-    let x = start.args in let h = start.requires in
+returns-then-w-size c = let x = c.args in let h = c.requires in
     let l = c.if-w-size.true in
     let room = c.if-s-w.false in
     leaves_by _ _ _ _ _ _
@@ -24,8 +23,7 @@ returns-then-w-size c = let start = c in
     (c.wait.ensures x.carry.now x.chunk.now)
 
 pub hand-requires : goal.hand-requires
-hand-requires c = let start = c in
-    let x = start.args in let r = start.requires.ready in
+hand-requires c = let x = c.args in let r = c.requires.ready in
     let l = c.if-w-size.false in
     let side : OnOneSide (left_len x.s) (Rtcm x.n false) = elim c.then-left-eq0.branch [
       | then-left-eq0-via-then-left-eq0 w ↦ inl w.if-left-eq0.true
@@ -34,8 +32,7 @@ hand-requires c = let start = c in
     record { before_value = (refl, refl); off_le_live = (r.sane.offs, (r.sane.parts, r.counts)); kind_bound = (omega arith, side) }
 
 pub returns-then-left-eq0 : goal.returns-then-left-eq0
-returns-then-left-eq0 c = let start = c in
-    let x = start.args in let h = start.requires in
+returns-then-left-eq0 c = let x = c.args in let h = c.requires in
     let l = c.if-w-size.false in
     let side : OnOneSide (left_len x.s) (Rtcm x.n false) = elim c.then-left-eq0.branch [
       | then-left-eq0-via-then-left-eq0 w ↦ inl w.if-left-eq0.true
@@ -47,16 +44,14 @@ returns-then-left-eq0 c = let start = c in
     (c.hand.ensures x.carry.now x.chunk.now)
 
 pub has_room-requires : goal.has_room-requires
-has_room-requires c = let start = c in
-    let x = start.args in let h = start.requires in let r = h.ready in let n = h.n_bound in
+has_room-requires c = let x = c.args in let h = c.requires in let r = h.ready in let n = h.n_bound in
     let b = c.if-size-left.false in
     let l : left_len x.s < 0 + (x.n + 3) = omega arith in
     let m : 0 + (x.n + 3) ≤ 32768 = omega arith in
     record { off_le_live = (r.sane.offs, r.sane.lives); s_bound = (l, m) }
 
 pub bring-requires : goal.bring-requires
-bring-requires c = let start = c in
-    let x = start.args in let r = start.requires.ready in
+bring-requires c = let x = c.args in let r = c.requires.ready in
     let l = c.if-w-size.false in
     let a = c.if-size-left.false in
     let room = c.has_room.ensures c.if-not-has_room.false in
@@ -65,8 +60,7 @@ bring-requires c = let start = c in
     record { before_value = (refl, refl); ready = r; kind_bound = (all, (room.0, (more, room.1))) }
 
 pub returns : goal.returns
-returns c = let start = c in
-    let x = start.args in let h = start.requires in let r = h.ready in let o = r.sane.lives in
+returns c = let x = c.args in let h = c.requires in let r = h.ready in let o = r.sane.lives in
     let l = c.if-w-size.false in
     let room = c.has_room.ensures c.if-not-has_room.false in
     let p = room.0 in let q = room.1 in

@@ -14,8 +14,7 @@ bring-requires c = let h = c.requires in let l = h.s_bound in
     record { before_value = (refl, refl); ready = h.ready; kind_bound = (omega arith, (room.0, (omega arith, room.1))) }
 
 pub returns-then-y-got : goal.returns-then-y-got
-returns-then-y-got c = let start = c in
-    let x = start.args in let h = start.requires in let r = h.ready in let o = r.sane.lives in let l = h.s_bound in
+returns-then-y-got c = let x = c.args in let h = c.requires in let r = h.ready in let o = r.sane.lives in let l = h.s_bound in
     let room = c.has_room.ensures c.if-not-has_room.false in
     let p = room.0 in let q = room.1 in
     let all = c.window_of-window.ensures in
@@ -23,8 +22,8 @@ returns-then-y-got c = let start = c in
     let here = c.byte_at-x in
     let next = c.byte_at-y in
     leaves_by _ _ _ _ _ _
-    (decides_across x.s x.carry.now x.chunk.now r x.class x.id x.n h.chunk_value here.result next.result sum.result (omega arith) (omega arith) (rw (all.carry_left, all.chunk_ahead) at here.ensures) (rw (all.carry_left, all.chunk_ahead) at next.ensures) (rw (all.carry_left, all.chunk_ahead) at sum.ensures)
-    ∙ ap (say x.s x.carry.now x.chunk.now) (sum_right here.result next.result sum.result x.class x.id x.n c.if-x-got.true c.if-y-got.true))
+    (decides_across x.s x.carry.now x.chunk.now r x.head.class x.head.id x.head.n h.chunk_value here.result next.result sum.result (omega arith) (omega arith) (rw (all.carry_left, all.chunk_ahead) at here.ensures) (rw (all.carry_left, all.chunk_ahead) at next.ensures) (rw (all.carry_left, all.chunk_ahead) at sum.ensures)
+    ∙ ap (say x.s x.carry.now x.chunk.now) (sum_right here.result next.result sum.result x.head.class x.head.id x.head.n c.if-x-got.true c.if-y-got.true))
     c.bring.ensures
 
 pub tell_wrong-requires : goal.tell_wrong-requires
@@ -32,8 +31,7 @@ tell_wrong-requires c = let h = c.requires in let r = h.ready in let l = h.s_bou
     (r.sane.offs, (r.sane.parts, (omega arith, omega arith)))
 
 pub returns : goal.returns
-returns c = let start = c in
-    let x = start.args in let h = start.requires in let r = h.ready in let o = r.sane.lives in let l = h.s_bound in
+returns c = let x = c.args in let h = c.requires in let r = h.ready in let o = r.sane.lives in let l = h.s_bound in
     let room = c.has_room.ensures c.if-not-has_room.false in
     let p = room.0 in let q = room.1 in
     let all = c.window_of-window.ensures in
@@ -45,6 +43,6 @@ returns c = let start = c in
       | else-x-got-via-else-x-got w ↦ inl w.if-x-got.false
     ] in
     leaves_by _ _ _ _ _ _
-    (decides_across x.s x.carry.now x.chunk.now r x.class x.id x.n h.chunk_value here.result next.result sum.result (omega arith) (omega arith) (rw (all.carry_left, all.chunk_ahead) at here.ensures) (rw (all.carry_left, all.chunk_ahead) at next.ensures) (rw (all.carry_left, all.chunk_ahead) at sum.ensures)
-    ∙ ap (say x.s x.carry.now x.chunk.now) (sum_wrong here.result next.result sum.result x.class x.id x.n wrong))
+    (decides_across x.s x.carry.now x.chunk.now r x.head.class x.head.id x.head.n h.chunk_value here.result next.result sum.result (omega arith) (omega arith) (rw (all.carry_left, all.chunk_ahead) at here.ensures) (rw (all.carry_left, all.chunk_ahead) at next.ensures) (rw (all.carry_left, all.chunk_ahead) at sum.ensures)
+    ∙ ap (say x.s x.carry.now x.chunk.now) (sum_wrong here.result next.result sum.result x.head.class x.head.id x.head.n wrong))
     (c.tell_wrong.ensures x.carry.now x.chunk.now)

@@ -5,8 +5,7 @@ use borrow.Author.Rules.{rules}
 use Rattle.quick_words.proofs.bring.Goals as goal
 
 pub returns : goal.returns
-returns c = let start = c in
-    let x = start.args in let h = start.requires in let d = h.before_value.0 in let t = h.before_value.1 in let lies = h.kind_bound.1 in
+returns c = let x = c.args in let h = c.requires in let d = h.before_value.0 in let t = h.before_value.1 in let lies = h.kind_bound.1 in
     let taken = c.take_grow-taken.ensures in
     leaves_by _ _ _ _ _ _ (hands_grow x.s x.kind x.carry.now x.chunk.now lies.0 lies.1.0 lies.1.1) record {
       stepped = c.write_stepped.ensures ∙ rw (taken.value, d, t);

@@ -7,8 +7,7 @@ use borrow.Author.Rules.{rules}
 use Rattle.quick_words.proofs.hand.Goals as goal
 
 pub returns-then-s : goal.returns-then-s
-returns-then-s c = let start = c in
-    let x = start.args in let h = start.requires in let d = h.before_value.0 in let t = h.before_value.1 in
+returns-then-s c = let x = c.args in let h = c.requires in let d = h.before_value.0 in let t = h.before_value.1 in
     let none = c.if-s.true in
     λ carry chunk.
     leaves_by _ _ _ _ _ _ (hands_chunk x.s x.kind carry chunk (omega arith)) record {
@@ -26,8 +25,7 @@ overflow_add-off c = let x = c.args in let h = c.requires in let d = h.before_va
     omega (arith, in_carry x.s x.kind h.off_le_live.0 c.if-s.false h.kind_bound.1)
 
 pub returns : goal.returns
-returns c = let start = c in
-    let x = start.args in let h = start.requires in let d = h.before_value.0 in let t = h.before_value.1 in
+returns c = let x = c.args in let h = c.requires in let d = h.before_value.0 in let t = h.before_value.1 in
     let side = in_carry x.s x.kind h.off_le_live.0 c.if-s.false h.kind_bound.1 in
     λ carry chunk.
     leaves_by _ _ _ _ _ _ (hands_carry x.s x.kind carry chunk side) record {
