@@ -2,7 +2,7 @@
 // the listing and of the stamps share: a label and a number, a position, a line's end.
 #![tactic(auto)]
 
-ghost use Rattle.std.specs.Prelude.{◌≡◌, ◌+◌, ◌<◌, ◌≤◌, ◌++◌, length};
+ghost use Rattle.std.specs.Prelude.{◌≡◌, ◌+◌, ◌<◌, ◌≤◌, ◌++◌, length, take};
 ghost use Rattle.text.specs.Text.{ascii};
 ghost use Rattle.text.specs.Digits.{decimal, hex_digit, hex};
 ghost use Rattle.text.specs.Labels.{here};
@@ -22,6 +22,13 @@ fn hex_digit(d: u8) -> u8
 }
 
 impl<'a> Lines<'a> {
+    // The text so far.
+    pub fn bytes(&self) -> &[u8]
+        ensures { result.now ≡ take self.now.len self.now.out.now }
+    {
+        &self.out[..self.len]
+    }
+
     // The bytes of a text.
     pub fn text(&mut self, s: &[u8])
         requires { self.old.len + length s.now ≤ length self.old.out.now }

@@ -4,6 +4,7 @@
 ghost use Rattle.std.specs.Prelude.{◌≤◌, length};
 
 // The buffer's first `len` bytes are text.
+#[derive(Drop)]
 pub struct Lines<'a> {
     pub out: &'a mut [u8],
     pub len: usize,
