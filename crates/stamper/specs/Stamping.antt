@@ -1,5 +1,5 @@
 -- What `stamps` makes of a chunk: each step's frame noted and counted, after those before it, until need more.
-use Rattle.std.specs.Prelude.{◌≡◌, ℕ, ◌+◌, ◌%◌, ◌^◌, ◌≤◌, true, false, List, [], length, Option}
+use Rattle.std.specs.Prelude.{◌≡◌, ℕ, ◌+◌, ◌%◌, ◌^◌, true, false, List, [], Option}
 use Rattle.state.specs.declared.State.{State}
 use Rattle.opening.specs.Operations.{opening, closing}
 use Rattle.stamp.specs.Step.{TimedOut, step}

@@ -1,8 +1,8 @@
 -- The turns of `fill`: each puts one more line behind those before it.
-use Rattle.std.proofs.Common.{◌≡◌, ℕ, ◌+◌, ◌<◌, ◌≤◌, Bool, true, false, List, [], ◌++◌, length, sym, refl, ap, ◌∙◌, subst, true≢false, append-nil}
+use Rattle.std.proofs.Common.{◌≡◌, ℕ, ◌+◌, ◌<◌, Bool, true, false, List, [], ◌++◌, length, sym, refl, ap, ◌∙◌, subst, true≢false, append-nil}
 use Rattle.text.specs.declared.lines.Lines.{Lines as Buffer}
 use Rattle.text.specs.Adds.{Adds}
-use Rattle.text.proofs.Adding.{behind, nothing}
+use Rattle.text.proofs.Laws.{behind, nothing}
 use Rattle.teller.specs.declared.Run.{Run}
 use Rattle.teller.specs.Words.{Point, Words, Uses, GetsOn}
 use Rattle.teller.specs.Telling.{point_of, onward, Tells, Lines, no_line, next_line, is_full, is_whole, Fills}

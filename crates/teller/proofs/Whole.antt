@@ -3,7 +3,7 @@ use Rattle.std.proofs.Common.{◌≡◌, ℕ, ◌+◌, ◌-◌, ◌<◌, ◌≤�
 use Rattle.state.specs.declared.State.{State}
 use Rattle.text.specs.declared.lines.Lines.{Lines as Buffer}
 use Rattle.text.specs.Adds.{SameBuffer}
-use Rattle.text.proofs.Adding.{unchanged, again}
+use Rattle.text.proofs.Laws.{unchanged, again}
 use Rattle.teller.specs.declared.Run.{Run}
 use Rattle.teller.specs.Words.{Point, Words, Uses, GetsOn}
 use Rattle.teller.specs.Telling.{point_of, flushed, Emptied, Lines, no_line, next_line, Filled, is_full, is_whole, Fills, Answers}

@@ -1,6 +1,6 @@
 -- `ends::header` meets its contract: its pieces, one behind the other.
 use Rattle.std.proofs.Common.{arith}
-use Rattle.text.proofs.Adding.{behind}
+use Rattle.text.proofs.Laws.{behind}
 use Rattle.ends.proofs.Modes.{mode_digit}
 use Rattle.ends.proofs.header.Goals as goal
 

@@ -1,5 +1,5 @@
 -- `ends::totals` meets its contract: its pieces, one behind the other.
-use Rattle.text.proofs.Adding.{behind}
+use Rattle.text.proofs.Laws.{behind}
 use Rattle.ends.proofs.totals.Goals as goal
 
 pub returns : goal.returns

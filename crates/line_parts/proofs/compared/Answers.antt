@@ -1,5 +1,5 @@
 -- `line_parts::compared` meets its contract: its pieces, one behind the other.
-use Rattle.text.proofs.Adding.{behind}
+use Rattle.text.proofs.Laws.{behind}
 use Rattle.line_parts.proofs.compared.Goals as goal
 
 pub returns-clause-adds : goal.returns-clause-adds

@@ -1,5 +1,5 @@
 -- `line_parts::ubx` meets its contract: its pieces, one behind the other.
-use Rattle.text.proofs.Adding.{behind}
+use Rattle.text.proofs.Laws.{behind}
 use Rattle.line_parts.proofs.ubx.Goals as goal
 
 pub returns : goal.returns

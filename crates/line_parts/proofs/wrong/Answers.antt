@@ -1,5 +1,5 @@
 -- `line_parts::wrong` meets its contract: the sums, and behind them the frame or the line end.
-use Rattle.text.proofs.Adding.{behind}
+use Rattle.text.proofs.Laws.{behind}
 use Rattle.line_parts.proofs.wrong.Goals as goal
 
 pub returns-then-named : goal.returns-then-named

@@ -1,6 +1,6 @@
 -- `lines::line` meets its contract: the position, and behind it what the answer's case says.
 use Rattle.lines.specs.Lines.{line}
-use Rattle.text.proofs.Adding.{behind, nothing}
+use Rattle.text.proofs.Laws.{behind, nothing}
 use Rattle.lines.proofs.line.Goals as goal
 
 pub returns-in-UbxFrame : goal.returns-in-UbxFrame

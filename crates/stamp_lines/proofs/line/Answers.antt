@@ -1,5 +1,5 @@
 -- `stamp_lines::line` meets its contract: the position, and behind it what the frame was read to.
-use Rattle.text.proofs.Adding.{behind}
+use Rattle.text.proofs.Laws.{behind}
 use Rattle.stamp_lines.proofs.line.Goals as goal
 
 pub returns-in-Time : goal.returns-in-Time

@@ -1,5 +1,5 @@
 -- `stamp_lines::totals` meets its contract: its pieces, one behind the other.
-use Rattle.text.proofs.Adding.{behind}
+use Rattle.text.proofs.Laws.{behind}
 use Rattle.stamp_lines.proofs.totals.Goals as goal
 
 pub returns : goal.returns

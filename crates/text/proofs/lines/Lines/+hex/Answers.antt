@@ -1,7 +1,7 @@
 -- `text::Lines::hex` meets its contract: no digits where none are asked, and otherwise the digits before the last, and the last
 -- behind them.
 use Rattle.std.proofs.Common.{arith}
-use Rattle.text.proofs.Adding.{behind, nothing}
+use Rattle.text.proofs.Laws.{behind, nothing}
 use Rattle.text.proofs.Digits.{hex_none, hex_more}
 use Rattle.text.proofs.lines.Lines.+hex.Goals as goal
 

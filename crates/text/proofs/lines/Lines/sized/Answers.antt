@@ -1,5 +1,5 @@
 -- `text::Lines::sized` meets its contract: the label and the number, and the line end behind them.
-use Rattle.text.proofs.Adding.{behind}
+use Rattle.text.proofs.Laws.{behind}
 use Rattle.text.proofs.lines.Lines.sized.Goals as goal
 
 pub returns : goal.returns
