@@ -1,5 +1,6 @@
 -- What a teller says of a chunk, spelled for the listing: the lines are those of the answers.
 use Rattle.std.proofs.Common.{◌≡◌, ℕ, false, List, refl}
+use Rattle.text.specs.declared.lines.Lines.{Lines as Buffer}
 use Rattle.teller.specs.declared.Run.{Run}
 use Rattle.teller.specs.Words.{Point}
 use Rattle.teller.specs.Telling.{Lines as Told, no_line as none_told, next_line as next_told, Filled as Whole, is_whole as whole_told, Through}
@@ -19,7 +20,7 @@ whole : {before : ℕ} {chunk : List ℕ} {p q : Point Listing} {text : List ℕ
     → Filled p.by.named before chunk p.state p.carry false text q.state q.carry × (q.by ≡ p.by)
 whole (whole_told a e) = (is_whole (lines a) e, kept a)
 
-pub lists : {l r : Run Listing} {carry chunk out carryThen : List ℕ} → Through listing l carry chunk out r carryThen → Lists l carry chunk r carryThen
+pub lists : {l r : Run Listing} {carry chunk carryThen : List ℕ} {b c : Buffer} → Through listing l carry chunk b r carryThen c → Lists l carry chunk r carryThen
 lists t =
     let w = whole t.says in
     record {

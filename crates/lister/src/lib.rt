@@ -2,11 +2,13 @@
 #![tactic(auto)]
 
 ghost use Rattle.std.specs.Prelude.{◌≤◌, length};
+ghost use Rattle.text.specs.Adds.{SameBuffer};
 ghost use Rattle.lister.specs.Listing.{listing, Lists};
 ghost use Rattle.lister.specs.Laws.{listing_gets_on};
 
 use std::io::Read;
 use teller::{Run, Teller};
+use text::Lines;
 use window::Mode;
 
 // What a listing has beside: whether the frame of a wrong sum is named.
@@ -22,22 +24,22 @@ impl Teller for Listing {
 
     const LONGEST: usize = lines::LONGEST;
 
-    fn first(out: &mut [u8], mode: Mode, max: u16, cap: usize) -> usize {
-        ends::header(out, 0, mode, max, cap)
+    fn first(lines: &mut Lines, mode: Mode, max: u16, cap: usize) {
+        ends::header(lines, mode, max, cap);
     }
 
     // It goes on where there is a line.
-    fn one(run: &mut Run<Listing>, carry: &mut [u8], chunk: &[u8], out: &mut [u8]) -> bool {
+    fn one(run: &mut Run<Listing>, carry: &mut [u8], chunk: &[u8], lines: &mut Lines) -> bool {
         let mode = run.state.mode;
         let stepped = framer::step(run.state, carry, chunk);
-        let from = run.waiting;
+        let from = lines.len;
         run.state = stepped.state;
-        run.waiting = lines::line(out, from, run.by.named, mode, run.used, stepped.answer);
-        from < run.waiting
+        lines::line(lines, run.by.named, mode, run.used, stepped.answer);
+        from < lines.len
     }
 
-    fn last(run: &Run<Listing>, out: &mut [u8]) -> usize {
-        ends::totals(out, run.waiting, run.used, run.kept, run.lost)
+    fn last(run: &Run<Listing>, lines: &mut Lines) {
+        ends::totals(lines, run.used, run.kept, run.lost);
     }
 
     ghost gets_on = { listing_gets_on };
@@ -49,13 +51,13 @@ pub fn through(
     l: &mut Run<Listing>,
     carry: &mut [u8],
     chunk: &[u8],
-    out: &mut [u8],
+    lines: &mut Lines,
 )
-    requires { (l.old.waiting ≤ length out.old) × (84 ≤ length out.old) }
+    requires { 84 ≤ length lines.old.out.now }
     ensures lists { Lists l.old carry.old chunk.now l.new carry.new }
-    ensures waiting_in_bounds { l.new.waiting ≤ length out.old }
+    ensures buffer { SameBuffer lines.old lines.new }
 {
-    teller::through(rt, l, carry, chunk, out);
+    teller::through(rt, l, carry, chunk, lines);
 }
 
 // Lists the reader's bytes in chunks of at most `chunk`'s length, with `name` for what is told on standard error; `named`: the

@@ -5,17 +5,16 @@
 
 use lines::LONGEST;
 use state::State;
+use text::Lines;
 use window::Mode;
 use writer::Written;
 use writer_state::{Refusal, Writer};
 
 const MAX: u16 = 240;
 
-// The first n bytes of a text.
-fn say_first(rt: &impl Print, text: &[u8], n: usize) {
-    if let Some(line) = text.get(..n) {
-        let _ = rt.write_all(line);
-    }
+// The lines so far.
+fn say(rt: &impl Print, lines: &Lines) {
+    let _ = rt.write_all(lines.bytes());
 }
 
 // A refusal's number, or 0.
@@ -32,24 +31,36 @@ fn said(rt: &impl Print, call: Written) -> Writer {
 // The first line.
 fn say_header(rt: &impl Print, mode: Mode, cap: usize) {
     let mut out = [0u8; LONGEST];
-    let n = ends::header(&mut out, 0, mode, MAX, cap);
-    say_first(rt, &out, n);
+    let mut lines = Lines {
+        out: &mut out,
+        len: 0,
+    };
+    ends::header(&mut lines, mode, MAX, cap);
+    say(rt, &lines);
 }
 
 // One step, and its answer's line, if it has one.
 fn say_step(rt: &impl Print, s: State, carry: &mut [u8], chunk: &[u8]) -> State {
     let mut out = [0u8; LONGEST];
     let stepped = framer::step(s, carry, chunk);
-    let n = lines::line(&mut out, 0, false, s.mode, 0, stepped.answer);
-    say_first(rt, &out, n);
+    let mut lines = Lines {
+        out: &mut out,
+        len: 0,
+    };
+    lines::line(&mut lines, false, s.mode, 0, stepped.answer);
+    say(rt, &lines);
     stepped.state
 }
 
 // The last line.
 fn say_totals(rt: &impl Print, used: usize, kept: usize, lost: usize) {
     let mut out = [0u8; LONGEST];
-    let n = ends::totals(&mut out, 0, used as u64, kept as u64, lost as u64);
-    say_first(rt, &out, n);
+    let mut lines = Lines {
+        out: &mut out,
+        len: 0,
+    };
+    ends::totals(&mut lines, used as u64, kept as u64, lost as u64);
+    say(rt, &lines);
 }
 
 // The lines of a chunk in which there is one frame: the second step needs more.

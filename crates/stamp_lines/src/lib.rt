@@ -1,13 +1,14 @@
-// The stamps' lines: what each step brought, the counts, and the bytes of their lines, put into lent memory.
+// The stamps' lines: what each step brought, the counts, and the bytes of their lines, put into lent memory behind what is there.
 #![tactic(auto)]
 
 ghost use Rattle.std.specs.Prelude.{◌≡◌, ◌+◌, ◌≤◌, length};
-ghost use Rattle.text.specs.Text.{Puts};
+ghost use Rattle.text.specs.Adds.{Adds};
 ghost use Rattle.stamp_lines.specs.Lines.{refused, said, line, tallies, totals};
 ghost use Rattle.stamp_lines.specs.Notes.{frame, noted, goes_on, tallied};
 
 use framer::Answer;
 use stamp::{Fault, Reading};
+use text::Lines;
 
 // NAV-TIMEUTC.
 const CLASS: u8 = 0x01;
@@ -39,66 +40,63 @@ pub struct Tally {
 }
 
 // A refusal's words, to the line's end.
-fn refused(out: &mut [u8], at: usize, fault: Fault) -> usize
-    requires { at + 30 ≤ length out.old }
-    ensures { Puts (refused fault) out.old at out.new result }
+fn refused(lines: &mut Lines, fault: Fault)
+    requires { lines.old.len + 30 ≤ length lines.old.out.now }
+    ensures { Adds (refused fault) lines.old lines.new }
 {
     let words: &[u8] = match fault {
         Fault::NotThisMessage => b" refused not this message\n",
         Fault::NotValid => b" refused not valid\n",
         Fault::Field => b" refused field\n",
     };
-    text::text(out, at, words)
+    lines.text(words);
 }
 
 // What a frame was read to, to the line's end.
-fn said(out: &mut [u8], at: usize, reading: Result<Reading, Fault>) -> usize
-    requires { at + 30 ≤ length out.old }
-    ensures { Puts (said reading) out.old at out.new result }
+fn said(lines: &mut Lines, reading: Result<Reading, Fault>)
+    requires { lines.old.len + 30 ≤ length lines.old.out.now }
+    ensures { Adds (said reading) lines.old lines.new }
 {
     match reading {
-        Ok(Reading::Stamp(t)) => text::sized(out, at, b" stamp ", t),
-        Ok(Reading::BackBy(d)) => text::sized(out, at, b" back by ", d),
-        Err(fault) => refused(out, at, fault),
+        Ok(Reading::Stamp(t)) => lines.sized(b" stamp ", t),
+        Ok(Reading::BackBy(d)) => lines.sized(b" back by ", d),
+        Err(fault) => refused(lines, fault),
     }
 }
 
 // A time frame's line, where earlier closes reported `before` bytes as used. Nothing else has one.
-pub fn line(out: &mut [u8], at: usize, before: u64, note: Note) -> usize
-    requires { at + 218 ≤ length out.old }
-    ensures { Puts (line before note) out.old at out.new result }
+pub fn line(lines: &mut Lines, before: u64, note: Note)
+    requires { lines.old.len + 218 ≤ length lines.old.out.now }
+    ensures { Adds (line before note) lines.old lines.new }
 {
-    match note {
-        Note::Time { at: p, reading } => {
-            let next = text::here(out, at, before, p);
-            said(out, next, reading)
-        }
-        Note::Other | Note::Sum | Note::Passed | Note::End => at,
+    if let Note::Time { at, reading } = note {
+        lines.here(before, at);
+        said(lines, reading);
     }
 }
 
 // What was counted.
-fn tallies(out: &mut [u8], at: usize, t: Tally) -> usize
-    requires { at + 139 ≤ length out.old }
-    ensures puts { Puts (tallies t) out.old at out.new result }
-    ensures upper_bound { result ≤ at + 139 }
+fn tallies(lines: &mut Lines, t: Tally)
+    requires { lines.old.len + 139 ≤ length lines.old.out.now }
+    ensures adds { Adds (tallies t) lines.old lines.new }
+    ensures upper_bound { lines.new.len ≤ lines.old.len + 139 }
 {
-    let a = text::labelled(out, at, b"end stamps ", t.stamps);
-    let b = text::labelled(out, a, b" back ", t.back);
-    let c = text::labelled(out, b, b" refused ", t.refused);
-    let d = text::labelled(out, c, b" other ", t.other);
-    text::labelled(out, d, b" sums ", t.sums)
+    lines.labelled(b"end stamps ", t.stamps);
+    lines.labelled(b" back ", t.back);
+    lines.labelled(b" refused ", t.refused);
+    lines.labelled(b" other ", t.other);
+    lines.labelled(b" sums ", t.sums);
 }
 
 // The last line: what was counted; used and lost of all closes, kept of the last one.
-pub fn totals(out: &mut [u8], at: usize, t: Tally, used: u64, kept: u64, lost: u64) -> usize
-    requires { at + 218 ≤ length out.old }
-    ensures { Puts (totals t used kept lost) out.old at out.new result }
+pub fn totals(lines: &mut Lines, t: Tally, used: u64, kept: u64, lost: u64)
+    requires { lines.old.len + 218 ≤ length lines.old.out.now }
+    ensures { Adds (totals t used kept lost) lines.old lines.new }
 {
-    let a = tallies(out, at, t);
-    let b = text::labelled(out, a, b" used ", used);
-    let c = text::labelled(out, b, b" kept ", kept);
-    text::sized(out, c, b" lost ", lost)
+    tallies(lines, t);
+    lines.labelled(b" used ", used);
+    lines.labelled(b" kept ", kept);
+    lines.sized(b" lost ", lost);
 }
 
 // A UBX frame: a time frame by its class and id, whatever its length. A step tells the reading of every one.

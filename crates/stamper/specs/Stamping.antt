@@ -1,5 +1,5 @@
 -- What `stamps` makes of a chunk: each step's frame noted and counted, after those before it, until need more.
-use Rattle.std.specs.Prelude.{◌≡◌, ℕ, ◌+◌, ◌%◌, ◌^◌, ◌≤◌, true, false, List, [], length, Option}
+use Rattle.std.specs.Prelude.{◌≡◌, ℕ, ◌+◌, ◌%◌, ◌^◌, true, false, List, [], Option}
 use Rattle.state.specs.declared.State.{State}
 use Rattle.opening.specs.Operations.{opening, closing}
 use Rattle.stamp.specs.Step.{TimedOut, step}
@@ -7,6 +7,8 @@ use Rattle.stamp_lines.specs.declared.Note.{Note}
 use Rattle.stamp_lines.specs.declared.Tally.{Tally}
 use Rattle.stamp_lines.specs.Notes.{noted, goes_on, tallied}
 use Rattle.stamp_lines.specs.Lines.{line, totals}
+use Rattle.text.specs.declared.lines.Lines.{Lines as Buffer}
+use Rattle.text.specs.Adds.{SameBuffer}
 use Rattle.teller.specs.declared.Run.{Run}
 use Rattle.teller.specs.Words.{Point as Place, Words}
 use Rattle.stamper.specs.declared.Stamping.{Stamping}
@@ -45,7 +47,7 @@ abbrev pub opened : Run Stamping → List ℕ → List ℕ → Point
 opened l carry chunk = record { state = (opening l.state carry chunk).state; clock = l.by.clock; tally = l.by.tally; carry = carry }
 
 -- a chunk: opened, stepped to its end, closed, and the close's report counted
-pub record Through (l : Run Stamping) (carry chunk out : List ℕ) (r : Run Stamping) (carryThen : List ℕ) : Type 0 where
+pub record Through (l : Run Stamping) (carry chunk : List ℕ) (b : Buffer) (r : Run Stamping) (carryThen : List ℕ) (c : Buffer) : Type 0 where
   pub last : Point
   pub ends : Ends chunk (opened l carry chunk) last
   pub state : r.state ≡ (closing last.state last.carry chunk).result.state
@@ -55,7 +57,7 @@ pub record Through (l : Run Stamping) (carry chunk out : List ℕ) (r : Run Stam
   pub kept : r.kept ≡ (closing last.state last.carry chunk).result.kept
   pub lost : r.lost ≡ (l.lost + (closing last.state last.carry chunk).result.lost) % 2 ^ 64
   pub carries : carryThen ≡ (closing last.state last.carry chunk).carry
-  pub within : r.waiting ≤ length out
+  pub buffer : SameBuffer b c
 
 -- ---- the stamps as a teller
 

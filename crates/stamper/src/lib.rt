@@ -9,6 +9,7 @@ ghost use Rattle.stamper.specs.Laws.{stamping_gets_on};
 use stamp_lines::Tally;
 use std::io::Read;
 use teller::{Run, Teller};
+use text::Lines;
 use window::Mode;
 
 // What the stamps have beside: the last stamp, and what was counted.
@@ -27,23 +28,21 @@ impl Teller for Stamping {
     const LONGEST: usize = 218;
 
     // There is none.
-    fn first(_out: &mut [u8], _mode: Mode, _max: u16, _cap: usize) -> usize {
-        0
-    }
+    fn first(_lines: &mut Lines, _mode: Mode, _max: u16, _cap: usize) {}
 
     // What the step brought is counted.
-    fn one(run: &mut Run<Stamping>, carry: &mut [u8], chunk: &[u8], out: &mut [u8]) -> bool {
+    fn one(run: &mut Run<Stamping>, carry: &mut [u8], chunk: &[u8], lines: &mut Lines) -> bool {
         let timed = stamp::step(run.by.clock, run.state, carry, chunk);
         let note = stamp_lines::noted(timed.answer, timed.told);
         run.state = timed.state;
         run.by.clock = timed.clock;
         run.by.tally = stamp_lines::tallied(run.by.tally, note);
-        run.waiting = stamp_lines::line(out, run.waiting, run.used, note);
+        stamp_lines::line(lines, run.used, note);
         stamp_lines::goes_on(note)
     }
 
-    fn last(run: &Run<Stamping>, out: &mut [u8]) -> usize {
-        stamp_lines::totals(out, run.waiting, run.by.tally, run.used, run.kept, run.lost)
+    fn last(run: &Run<Stamping>, lines: &mut Lines) {
+        stamp_lines::totals(lines, run.by.tally, run.used, run.kept, run.lost);
     }
 
     ghost gets_on = { stamping_gets_on };
@@ -55,12 +54,12 @@ pub fn through(
     l: &mut Run<Stamping>,
     carry: &mut [u8],
     chunk: &[u8],
-    out: &mut [u8],
+    lines: &mut Lines,
 )
-    requires { (l.old.waiting ≤ length out.old) × (218 ≤ length out.old) }
-    ensures { Through l.old carry.old chunk.now out.old l.new carry.new }
+    requires { 218 ≤ length lines.old.out.now }
+    ensures { Through l.old carry.old chunk.now lines.old l.new carry.new lines.new }
 {
-    teller::through(rt, l, carry, chunk, out);
+    teller::through(rt, l, carry, chunk, lines);
 }
 
 // The stamps in the reader's bytes, in chunks of at most `chunk`'s length, with `name` for what is told on standard error.

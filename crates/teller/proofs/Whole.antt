@@ -1,9 +1,12 @@
 -- The turns of `answers`: the lines of one filled buffer after the other are those of the chunk.
 use Rattle.std.proofs.Common.{◌≡◌, ℕ, ◌+◌, ◌-◌, ◌<◌, ◌≤◌, min, Bool, true, false, List, [], ◌∷◌, ◌++◌, length, refl, ap, ◌∙◌, append_assoc, append-nil, arith}
 use Rattle.state.specs.declared.State.{State}
+use Rattle.text.specs.declared.lines.Lines.{Lines as Buffer}
+use Rattle.text.specs.Adds.{SameBuffer}
+use Rattle.text.proofs.Laws.{unchanged, again}
 use Rattle.teller.specs.declared.Run.{Run}
 use Rattle.teller.specs.Words.{Point, Words, Uses, GetsOn}
-use Rattle.teller.specs.Telling.{point_of, flushed, Lines, no_line, next_line, Filled, is_full, is_whole, Fills, Answers}
+use Rattle.teller.specs.Telling.{point_of, flushed, Emptied, Lines, no_line, next_line, Filled, is_full, is_whole, Fills, Answers}
 
 -- ---- runs of lines
 
@@ -34,8 +37,8 @@ gets on {chunk = chunk} (next_line {q = q} a e) =
 
 -- ---- the turns
 
-abbrev pub left : {M : Type 0} → Run M → ℕ
-left l = (32768 - l.state.used) + (32768 - l.state.used) + min 1 l.waiting
+abbrev pub left : {M : Type 0} → Run M → Buffer → ℕ
+left l b = (32768 - l.state.used) + (32768 - l.state.used) + min 1 b.len
 
 -- a turn leaves less: a line uses up a byte, and where there was none a flush empties what waited
 less : (s t : State) (waiting : ℕ) (text : List ℕ) → Gets s t text → 0 < waiting + length text
@@ -44,18 +47,18 @@ less s t waiting [] g h = omega (arith, g.least)
 less s t waiting (x ∷ xs) g h = let u = g.some (omega arith) in omega (arith, u.more, u.within)
 
 -- after so many filled buffers
-pub record Flowing {M : Type 0} (w : Words M) (l : Run M) (carry chunk out : List ℕ) (next : Run M) (carryNow : List ℕ) : Type 0 where
+pub record Flowing {M : Type 0} (w : Words M) (l : Run M) (carry chunk : List ℕ) (b : Buffer) (next : Run M) (carryNow : List ℕ) (bNow : Buffer) : Type 0 where
   pub text : List ℕ
   pub lines : Lines w l.used chunk (point_of l carry) text (point_of next carryNow)
   pub used : next.used ≡ l.used
   pub kept : next.kept ≡ l.kept
   pub lost : next.lost ≡ l.lost
-  pub within : next.waiting ≤ length out
+  pub buffer : SameBuffer b bNow
 
-pub flowing_starts : {M : Type 0} {w : Words M} {l : Run M} {carry chunk out : List ℕ} → l.waiting ≤ length out → Flowing w l carry chunk out l carry
-flowing_starts h = record { text = []; lines = no_line; used = refl; kept = refl; lost = refl; within = h }
+pub flowing_starts : {M : Type 0} {w : Words M} (l : Run M) (carry chunk : List ℕ) (b : Buffer) → Flowing w l carry chunk b l carry b
+flowing_starts l carry chunk b = record { text = []; lines = no_line; used = refl; kept = refl; lost = refl; buffer = unchanged b }
 
-module _ {M : Type 0} {w : Words M} {longest : ℕ} {l : Run M} {carry chunk out : List ℕ} {next : Run M} {c o : List ℕ} (g : Flowing w l carry chunk out next c) (same : length o ≡ length out) {more : Bool} {f : Run M} {c' o' : List ℕ} (fills : Fills w longest next c chunk o more f c' o') where
+module _ {M : Type 0} {w : Words M} {longest : ℕ} {l : Run M} {carry chunk : List ℕ} {b : Buffer} {next : Run M} {c : List ℕ} {o : Buffer} (g : Flowing w l carry chunk b next c o) {more : Bool} {f : Run M} {c' : List ℕ} {o' : Buffer} (fills : Fills w longest next c chunk o more f c' o') where
   used : f.used ≡ l.used
   used = ap (λ (x : Run M). x.used) fills.run ∙ g.used
 
@@ -68,28 +71,28 @@ module _ {M : Type 0} {w : Words M} {longest : ℕ} {l : Run M} {carry chunk out
   says : (m : Bool) → more ≡ m → Filled w l.used chunk (point_of next c) m fills.text (point_of f c')
   says m e = rw (g.used, e) at fills.says
 
-  pub flowing_ends : more ≡ false → Answers w l carry chunk out f c'
+  pub flowing_ends : more ≡ false → Answers w l carry chunk b f c' o'
   flowing_ends e = record {
     text = g.text ++ fills.text;
     says = whole_joined g.lines (says false e);
     used = used;
     kept = kept;
     lost = lost;
-    within = omega (arith, fills.within, same);
+    buffer = again g.buffer fills.adds.buffer;
   }
 
-  module _ (full : more ≡ true) {n : Run M} (e : n ≡ flushed f n.up) where
-    pub flowing_on : Flowing w l carry chunk out n c'
+  module _ (full : more ≡ true) {n : Run M} (e : n ≡ flushed f n.up) {o'' : Buffer} (z : Emptied o' o'') where
+    pub flowing_on : Flowing w l carry chunk b n c' o''
     flowing_on = record {
       text = g.text ++ fills.text;
       lines = rw e (join g.lines (full_lines (says true full)));
       used = rw e used;
       kept = rw e kept;
       lost = rw e lost;
-      within = rw e (omega arith);
+      buffer = again g.buffer (again fills.adds.buffer z.buffer);
     }
 
-    pub flowing_less : GetsOn w → longest ≤ length o → left n < left next
+    pub flowing_less : GetsOn w → longest ≤ length o.out.now → left n o'' < left next o
     flowing_less on room =
-        rw e
-        (less next.state f.state next.waiting fills.text (gets on (full_lines (says true full))) (omega (arith, fills.full full, fills.puts.place)))
+        rw (e, z.len)
+        (less next.state f.state o.len fills.text (gets on (full_lines (says true full))) (omega (arith, fills.full full, fills.adds.puts.place, fills.adds.buffer.size)))

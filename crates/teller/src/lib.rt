@@ -3,24 +3,24 @@
 #![tactic(auto)]
 
 ghost use Rattle.std.specs.Prelude.{◌≡◌, ℕ, ◌+◌, ◌≤◌, length};
-ghost use Rattle.text.specs.Text.{Puts};
+ghost use Rattle.text.specs.Adds.{SameBuffer, Adds};
 ghost use Rattle.teller.specs.Words.{Words, GetsOn};
-ghost use Rattle.teller.specs.Telling.{flushed, counted, Makes, Tells, Fills, Answers, Through};
+ghost use Rattle.teller.specs.Telling.{flushed, Emptied, counted, Makes, Tells, Fills, Answers, Through};
 
 use opening::Closed;
 use state::State;
 use std::io::Read;
+use text::Lines;
 use window::Mode;
 
-// Where a program stands: the parser; used and lost of all closes so far, and kept of the last; how many bytes of lines wait in the
-// buffer; whether every write so far was taken; and what the teller has beside.
+// Where a program stands: the parser; used and lost of all closes so far, and kept of the last; whether every write so far was
+// taken; and what the teller has beside. The lines that wait to be written stand in a buffer beside it.
 #[derive(Clone, Copy)]
 pub struct Run<T> {
     pub state: State,
     pub used: u64,
     pub kept: u64,
     pub lost: u64,
-    pub waiting: usize,
     pub up: bool,
     pub by: T,
 }
@@ -34,31 +34,30 @@ pub trait Teller: Copy {
     // The longest line.
     const LONGEST: usize;
 
-    // The first line, if there is one, put to the front: the place behind it. It may say mode, MAX and C.
-    fn first(out: &mut [u8], mode: Mode, max: u16, cap: usize) -> usize
-        requires { LONGEST ≤ length out.old }
-        ensures { Puts (words.first mode max cap) out.old 0 out.new result };
+    // The first line, if there is one. It may say mode, MAX and C.
+    fn first(lines: &mut Lines, mode: Mode, max: u16, cap: usize)
+        requires { lines.old.len + LONGEST ≤ length lines.old.out.now }
+        ensures { Adds (words.first mode max cap) lines.old lines.new };
 
-    // One step: its line is put behind those that wait. The answer is whether there may be more.
-    fn one(run: &mut Run<Self>, carry: &mut [u8], chunk: &[u8], out: &mut [u8]) -> bool
-        requires { run.old.waiting + LONGEST ≤ length out.old }
-        ensures { Tells words run.old carry.old chunk.now out.old result run.new carry.new out.new };
+    // One step, and its line. The answer is whether there may be more.
+    fn one(run: &mut Run<Self>, carry: &mut [u8], chunk: &[u8], lines: &mut Lines) -> bool
+        requires { lines.old.len + LONGEST ≤ length lines.old.out.now }
+        ensures { Tells words run.old carry.old chunk.now lines.old result run.new carry.new lines.new };
 
-    // The last line, put behind those that wait: the place behind it.
-    fn last(run: &Run<Self>, out: &mut [u8]) -> usize
-        requires { run.now.waiting + LONGEST ≤ length out.old }
-        ensures { Puts (words.last run.now.by run.now.used run.now.kept run.now.lost) out.old run.now.waiting out.new result };
+    // The last line.
+    fn last(run: &Run<Self>, lines: &mut Lines)
+        requires { lines.old.len + LONGEST ≤ length lines.old.out.now }
+        ensures { Adds (words.last run.now.by run.now.used run.now.kept run.now.lost) lines.old lines.new };
 
     ghost gets_on: { GetsOn words };
 }
 
 // The lines of the steps to come, as far as the buffer has room. The answer is whether it is full.
-fn fill<T: Teller>(run: &mut Run<T>, carry: &mut [u8], chunk: &[u8], out: &mut [u8]) -> bool
-    requires { run.old.waiting ≤ length out.old }
-    ensures { Fills T.words T.LONGEST run.old carry.old chunk.now out.old result run.new carry.new out.new }
+fn fill<T: Teller>(run: &mut Run<T>, carry: &mut [u8], chunk: &[u8], lines: &mut Lines) -> bool
+    ensures { Fills T.words T.LONGEST run.old carry.old chunk.now lines.old result run.new carry.new lines.new }
 {
-    while T::LONGEST <= out.len() - run.waiting {
-        if !T::one(run, carry, chunk, out) {
+    while T::LONGEST <= lines.out.len() - lines.len {
+        if !T::one(run, carry, chunk, lines) {
             return false;
         }
     }
@@ -66,14 +65,14 @@ fn fill<T: Teller>(run: &mut Run<T>, carry: &mut [u8], chunk: &[u8], out: &mut [
 }
 
 // Writes the lines that wait. A write that fails is told on standard error, and nothing is written after it.
-fn flush<T: Teller>(rt: &(impl Print + Eprint), run: &mut Run<T>, out: &[u8])
-    requires { run.old.waiting ≤ length out.now }
-    ensures { run.new ≡ flushed run.old run.new.up }
+fn flush<T: Teller>(rt: &(impl Print + Eprint), run: &mut Run<T>, lines: &mut Lines)
+    ensures run { run.new ≡ flushed run.old run.new.up }
+    ensures lines { Emptied lines.old lines.new }
 {
     if run.up {
-        run.up = edge::write(rt, &out[..run.waiting]);
+        run.up = edge::write(rt, lines.bytes());
     }
-    run.waiting = 0;
+    lines.len = 0;
 }
 
 // The lines of all steps with an opened chunk; those that fill the buffer are written.
@@ -82,13 +81,13 @@ fn answers<T: Teller>(
     run: &mut Run<T>,
     carry: &mut [u8],
     chunk: &[u8],
-    out: &mut [u8],
+    lines: &mut Lines,
 )
-    requires { (run.old.waiting ≤ length out.old) × (T.LONGEST ≤ length out.old) }
-    ensures { Answers T.words run.old carry.old chunk.now out.old run.new carry.new }
+    requires { T.LONGEST ≤ length lines.old.out.now }
+    ensures { Answers T.words run.old carry.old chunk.now lines.old run.new carry.new lines.new }
 {
-    while fill(run, carry, chunk, out) {
-        flush(rt, run, out);
+    while fill(run, carry, chunk, lines) {
+        flush(rt, run, lines);
     }
 }
 
@@ -108,33 +107,33 @@ pub fn through<T: Teller>(
     run: &mut Run<T>,
     carry: &mut [u8],
     chunk: &[u8],
-    out: &mut [u8],
+    lines: &mut Lines,
 )
-    requires { (run.old.waiting ≤ length out.old) × (T.LONGEST ≤ length out.old) }
-    ensures { Through T.words run.old carry.old chunk.now out.old run.new carry.new }
+    requires { T.LONGEST ≤ length lines.old.out.now }
+    ensures { Through T.words run.old carry.old chunk.now lines.old run.new carry.new lines.new }
 {
     run.state = opening::open(run.state, carry, chunk).state;
-    answers(rt, run, carry, chunk, out);
+    answers(rt, run, carry, chunk, lines);
     count(run, opening::close(run.state, carry, chunk));
 }
 
 // Room for one more line: those that wait are written where there is none.
-fn with_room<T: Teller>(rt: &(impl Print + Eprint), run: &mut Run<T>, out: &[u8])
-    requires { (run.old.waiting ≤ length out.now) × (T.LONGEST ≤ length out.now) }
-    ensures { Makes T.LONGEST run.old (length out.now) run.new }
+fn with_room<T: Teller>(rt: &(impl Print + Eprint), run: &mut Run<T>, lines: &mut Lines)
+    requires { T.LONGEST ≤ length lines.old.out.now }
+    ensures { Makes T.LONGEST run.old lines.old run.new lines.new }
 {
-    if out.len() - run.waiting < T::LONGEST {
-        flush(rt, run, out);
+    if lines.out.len() - lines.len < T::LONGEST {
+        flush(rt, run, lines);
     }
 }
 
 // The last line, and what waits is written.
-fn finish<T: Teller>(rt: &(impl Print + Eprint), run: &mut Run<T>, out: &mut [u8])
-    requires { (run.old.waiting ≤ length out.old) × (T.LONGEST ≤ length out.old) }
+fn finish<T: Teller>(rt: &(impl Print + Eprint), run: &mut Run<T>, lines: &mut Lines)
+    requires { T.LONGEST ≤ length lines.old.out.now }
 {
-    with_room(rt, run, out);
-    run.waiting = T::last(run, out);
-    flush(rt, run, out);
+    with_room(rt, run, lines);
+    T::last(run, lines);
+    flush(rt, run, lines);
 }
 
 // Tells the reader's bytes in chunks of at most `chunk`'s length, between the first line and the last, with `name` for what is told
@@ -153,12 +152,13 @@ pub fn tell<T: Teller>(
 )
     requires { T.LONGEST ≤ length out.old }
 {
+    let mut lines = Lines { out, len: 0 };
+    T::first(&mut lines, mode, max, carry.len());
     let mut run = Run {
         state: opening::start(carry, mode, max).state,
         used: 0,
         kept: 0,
         lost: 0,
-        waiting: T::first(out, mode, max, carry.len()),
         up: true,
         by,
     };
@@ -167,10 +167,10 @@ pub fn tell<T: Teller>(
         if n == 0 {
             break;
         }
-        through(rt, &mut run, carry, &chunk[..n], out);
+        through(rt, &mut run, carry, &chunk[..n], &mut lines);
         if !run.up {
             break;
         }
     }
-    finish(rt, &mut run, out)
+    finish(rt, &mut run, &mut lines)
 }

@@ -94,7 +94,7 @@ unfolding hex
 hex_none zero n e = refl
 hex_none (suc places) n e = absurd (omega arith)
 
-pub hex_more : (places n : ℕ) → (places ≡ 0 → ⊥) → hex places n ≡ hex (places - 1) (n / 16) ++ (hex_digit (n % 16) ∷ [])
+pub hex_more : (places n : ℕ) → 0 < places → hex places n ≡ hex (places - 1) (n / 16) ++ (hex_digit (n % 16) ∷ [])
 unfolding hex
-hex_more zero n some = absurd (some refl)
+hex_more zero n some = absurd (omega arith)
 hex_more (suc places) n some = let e : suc places - 1 ≡ places = omega arith in rw e

@@ -1,15 +1,9 @@
--- Texts put into a buffer, one behind the other, are one text.
-use Rattle.std.proofs.Common.{◌≡◌, ℕ, ◌+◌, ◌-◌, ◌≤◌, List, [], ◌++◌, length, take, drop, sym, ap, ◌∙◌, append_assoc, append-nil, add-zero, arith, length-append, length-drop, take-append-drop, drop_of_length-le, length-take-le, take_all, drop-drop, take_at}
-use lib.Seq.{drop-append-add, take-length}
-use Rattle.text.specs.Text.{put, Puts}
-
--- a text copied to the front of the part from a place on
-pub copied : (out s : List ℕ) (at : ℕ) → at + length s ≤ length out
-    → take at out ++ ((take (length s) s ++ drop (length s) (take (length out - at) (drop at out))) ++ drop (length out - at) (drop at out)) ≡ put out at s
-copied out s at h =
-    let all : take (length out - at) (drop at out) ≡ drop at out = take_all (length out - at) (drop at out) (simp length-drop (omega arith)) in
-    let none : drop (length out - at) (drop at out) ≡ [] = drop_of_length-le (drop at out) {i = length out - at} (simp length-drop (omega arith)) in
-    rw (all, none, append-nil, take-length s, drop-drop (length s) at out, ← append_assoc (take at out) s (drop (at + length s) out))
+-- Texts put behind what stands in a lent buffer, one behind the other, are one text.
+use Rattle.std.proofs.Common.{◌≡◌, ℕ, ◌+◌, ◌≤◌, List, [], ◌++◌, length, take, drop, sym, refl, ap, ◌∙◌, append_assoc, append-nil, add-zero, arith, length-append, take-append-drop, length-take-le, drop-drop, take_at}
+use lib.Seq.{drop-append-add}
+use Rattle.text.specs.declared.lines.Lines.{Lines}
+use Rattle.text.specs.Text.{put}
+use Rattle.text.specs.Adds.{SameBuffer, Adds}
 
 put_put : (out s t : List ℕ) (at : ℕ) → at ≤ length out → put (put out at s) (at + length s) t ≡ put out at (s ++ t)
 put_put out s t at h =
@@ -24,20 +18,26 @@ put_put out s t at h =
     ∙ ap (λ (m : ℕ). drop m out) n in
     rw (take_at p q (at + length s) e, f, append_assoc (take at out) s t)
 
-pub behind : {s t out mid end : List ℕ} {at a b : ℕ} → at ≤ length out → Puts s out at mid a → Puts t mid a end b → Puts (s ++ t) out at end b
-behind {s} {t} {out} {at = at} h p q = record {
-  bytes = q.bytes ∙ rw (p.bytes, p.place) (put_put out s t at h);
-  place = omega (arith, p.place, q.place, length-append s t);
-}
+pub unchanged : (l : Lines) → SameBuffer l l
+unchanged l = record { size = refl; name = refl }
 
-pub nothing : (out : List ℕ) (at : ℕ) → Puts [] out at out at
-nothing out at = record {
-  bytes = sym (rw (append-nil, add-zero) (take-append-drop at out));
-  place = omega arith;
-}
+pub again : {l m n : Lines} → SameBuffer l m → SameBuffer m n → SameBuffer l n
+again a b = record { size = b.size ∙ a.size; name = b.name ∙ a.name }
 
--- a text that leaves the buffer its length had room in it
-pub fits : {text out after : List ℕ} {at next : ℕ} → at ≤ length out → Puts text out at after next → length after ≡ length out → next ≤ length out
-fits {text} {out} {after} {at} h p same =
-    let e : length (put out at text) ≡ length out = rw p.bytes at same in
-    omega (arith, p.place, simp (length-append, length-take-le at out h, length-drop) at e)
+pub behind : {s t : List ℕ} {l m n : Lines} → Adds s l m → Adds t m n → Adds (s ++ t) l n
+behind {s} {t} {l} a b =
+    let p = a.puts in
+    let q = b.puts in
+    record {
+      puts = record {
+        bytes = q.bytes ∙ rw (p.bytes, p.place) (put_put l.out.now s t l.len l.fits);
+        place = omega (arith, p.place, q.place, length-append s t);
+      };
+      buffer = again a.buffer b.buffer;
+    }
+
+pub nothing : (l : Lines) → Adds [] l l
+nothing l = record {
+  puts = record { bytes = sym (rw (append-nil, add-zero) (take-append-drop l.len l.out.now)); place = omega arith };
+  buffer = unchanged l;
+}

@@ -1,32 +1,16 @@
-// Text put into a lent buffer from a place on; the answer is the place behind it. Bytes as they are, numbers in decimal and in
-// hexadecimal, and what the lines of the listing and of the stamps share: a label and a number, a position, a line's end.
+// Text put into a lent buffer behind what is there: bytes as they are, numbers in decimal and in hexadecimal, and what the lines of
+// the listing and of the stamps share: a label and a number, a position, a line's end.
 #![tactic(auto)]
 
-ghost use Rattle.std.specs.Prelude.{◌≡◌, ◌+◌, ◌<◌, ◌≤◌, ◌++◌, length};
-ghost use Rattle.text.specs.Text.{ascii, Puts};
+ghost use Rattle.std.specs.Prelude.{◌≡◌, ◌+◌, ◌<◌, ◌≤◌, ◌++◌, length, take};
+ghost use Rattle.text.specs.Text.{ascii};
 ghost use Rattle.text.specs.Digits.{decimal, hex_digit, hex};
 ghost use Rattle.text.specs.Labels.{here};
+ghost use Rattle.text.specs.Adds.{Adds};
 
-// The bytes of a text.
-pub fn text(out: &mut [u8], at: usize, s: &[u8]) -> usize
-    requires { at + length s.now ≤ length out.old }
-    ensures { Puts s.now out.old at out.new result }
-{
-    let end = at + s.len();
-    out[at..end].copy_from_slice(s);
-    end
-}
+mod lines;
 
-// A number's decimal digits.
-fn decimal(out: &mut [u8], at: usize, n: u64) -> usize
-    requires { at + 20 ≤ length out.old }
-    ensures puts { Puts (decimal n) out.old at out.new result }
-    ensures upper_bound { result ≤ at + 20 }
-{
-    let mut digits = [0u8; 20];
-    let k = io::decimal(n, &mut digits);
-    text(out, at, &digits[..k])
-}
+pub use lines::Lines;
 
 // The digit of a number below sixteen.
 fn hex_digit(d: u8) -> u8
@@ -37,48 +21,72 @@ fn hex_digit(d: u8) -> u8
     b"0123456789ABCDEF"[i]
 }
 
-// A number's last hexadecimal digits, so many of them, the high one first.
-pub fn hex(out: &mut [u8], at: usize, places: usize, n: u32) -> usize
-    requires { at + places ≤ length out.old }
-    ensures puts { Puts (hex places n) out.old at out.new result }
-    ensures value { result ≡ at + places }
-{
-    if places == 0 {
-        return at;
+impl<'a> Lines<'a> {
+    // The text so far.
+    pub fn bytes(&self) -> &[u8]
+        ensures { result.now ≡ take self.now.len self.now.out.now }
+    {
+        &self.out[..self.len]
     }
-    let next = hex(out, at, places - 1, n / 16);
-    text(out, next, &[hex_digit((n % 16) as u8)])
-}
 
-// A label, and a number in decimal.
-pub fn labelled(out: &mut [u8], at: usize, label: &[u8], n: u64) -> usize
-    requires { at + (length label.now + 20) ≤ length out.old }
-    ensures puts { Puts (label.now ++ decimal n) out.old at out.new result }
-    ensures upper_bound { result ≤ at + (length label.now + 20) }
-{
-    let next = text(out, at, label);
-    decimal(out, next, n)
-}
+    // The bytes of a text.
+    pub fn text(&mut self, s: &[u8])
+        requires { self.old.len + length s.now ≤ length self.old.out.now }
+        ensures { Adds s.now self.old self.new }
+    {
+        let end = self.len + s.len();
+        self.out[self.len..end].copy_from_slice(s);
+        self.len = end;
+    }
 
-// `at P`, with the position in the stream.
-pub fn here(out: &mut [u8], at: usize, before: u64, p: usize) -> usize
-    requires { at + 23 ≤ length out.old }
-    ensures puts { Puts (here before p) out.old at out.new result }
-    ensures upper_bound { result ≤ at + 23 }
-{
-    labelled(
-        out,
-        at,
-        b"at ",
-        std::num::wrapping_add_u64(before, p as u64),
-    )
-}
+    // A number's decimal digits.
+    fn decimal(&mut self, n: u64)
+        requires { self.old.len + 20 ≤ length self.old.out.now }
+        ensures adds { Adds (decimal n) self.old self.new }
+        ensures upper_bound { self.new.len ≤ self.old.len + 20 }
+    {
+        let mut digits = [0u8; 20];
+        let k = io::decimal(n, &mut digits);
+        self.text(&digits[..k]);
+    }
 
-// The end of a line that is a label and a number.
-pub fn sized(out: &mut [u8], at: usize, label: &[u8], n: u64) -> usize
-    requires { at + (length label.now + 21) ≤ length out.old }
-    ensures { Puts ((label.now ++ decimal n) ++ ascii "\n") out.old at out.new result }
-{
-    let next = labelled(out, at, label, n);
-    text(out, next, b"\n")
+    // A number's last hexadecimal digits, so many of them, the high one first.
+    pub fn hex(&mut self, places: usize, n: u32)
+        requires { self.old.len + places ≤ length self.old.out.now }
+        ensures adds { Adds (hex places n) self.old self.new }
+        ensures value { self.new.len ≡ self.old.len + places }
+    {
+        if places > 0 {
+            self.hex(places - 1, n / 16);
+            self.text(&[hex_digit((n % 16) as u8)]);
+        }
+    }
+
+    // A label, and a number in decimal.
+    pub fn labelled(&mut self, label: &[u8], n: u64)
+        requires { self.old.len + (length label.now + 20) ≤ length self.old.out.now }
+        ensures adds { Adds (label.now ++ decimal n) self.old self.new }
+        ensures upper_bound { self.new.len ≤ self.old.len + (length label.now + 20) }
+    {
+        self.text(label);
+        self.decimal(n);
+    }
+
+    // `at P`, with the position in the stream.
+    pub fn here(&mut self, before: u64, p: usize)
+        requires { self.old.len + 23 ≤ length self.old.out.now }
+        ensures adds { Adds (here before p) self.old self.new }
+        ensures upper_bound { self.new.len ≤ self.old.len + 23 }
+    {
+        self.labelled(b"at ", before.wrapping_add(p as u64));
+    }
+
+    // The end of a line that is a label and a number.
+    pub fn sized(&mut self, label: &[u8], n: u64)
+        requires { self.old.len + (length label.now + 21) ≤ length self.old.out.now }
+        ensures { Adds ((label.now ++ decimal n) ++ ascii "\n") self.old self.new }
+    {
+        self.labelled(label, n);
+        self.text(b"\n");
+    }
 }

@@ -1,12 +1,6 @@
 -- `line_parts::compared` meets its contract: its pieces, one behind the other.
-use Prim.Native.Nat.{◌≤◌}
-use native.Mathlib.Omega.{arith}
-use lib.ListN.{length}
 use Rattle.text.proofs.Laws.{behind}
 use Rattle.line_parts.proofs.compared.Goals as goal
 
-pub returns : goal.returns
-returns c =
-    let x = c.args in
-    let room : x.at ≤ length x.out.now = omega (arith, c.requires) in
-    record { puts = behind room (behind room (behind room c.text-a.ensures c.hex-b.ensures.puts) c.text-c.ensures) c.hex.ensures.puts; value = omega (arith, c.text-a.ensures.place, c.hex-b.ensures.value, c.text-c.ensures.place, c.hex.ensures.value) }
+pub returns-clause-adds : goal.returns-clause-adds
+returns-clause-adds c = behind (behind (behind c.text.ensures c.hex.ensures.adds) c.text-2.ensures) c.hex-2.ensures.adds

@@ -23,5 +23,5 @@ returns g c =
       kept = rw (c.count.ensures, e.0);
       lost = rw (c.count.ensures, e.0, a.ensures.lost);
       carries = e.1;
-      within = rw c.count.ensures a.ensures.within;
+      buffer = a.ensures.buffer;
     }

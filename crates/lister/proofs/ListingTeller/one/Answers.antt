@@ -11,10 +11,10 @@ returns c =
     let l = x.run.now in
     let o = step l.state x.carry.now x.chunk.now in
     let e = steps_is o c.step-stepped.result c.step-stepped.new.carry c.step-stepped.ensures in
-    let p = rw e.0 at c.line-run.ensures in
+    let p = rw e.0 at c.line.ensures in
     record {
       run = rw e.0;
       carries = e.1;
-      puts = p;
-      goes = ap (λ (n : ℕ). ltb l.waiting n) p.place ∙ grows l.by.named l.state.mode l.used l.waiting o.result.answer;
+      adds = p;
+      goes = ap (λ (n : ℕ). ltb x.lines.now.len n) p.puts.place ∙ grows l.by.named l.state.mode l.used x.lines.now.len o.result.answer;
     }

@@ -13,6 +13,6 @@ returns c =
     record {
       run = rw (c.tallied-run.ensures, c.noted-note.ensures, e.0);
       carries = e.1;
-      puts = rw (c.noted-note.ensures, e.0) at c.line-run.ensures;
+      adds = rw (c.noted-note.ensures, e.0) at c.line.ensures;
       goes = rw (c.goes_on.ensures, c.noted-note.ensures, e.0);
     }
