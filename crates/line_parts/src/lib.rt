@@ -44,7 +44,7 @@ fn compared(lines: &mut Lines, label: &[u8], places: usize, expect: u32, got: u3
     lines.hex(places, got);
 }
 
-// A wrong sum's line behind its position; `named`: with class, id and length of the frame.
+// A wrong sum's line behind its position. `named` is the listing's own setting, no sign of a frame that is missing: with class, id and length of the frame.
 pub fn wrong(lines: &mut Lines, named: bool, class: u8, id: u8, n: usize, expect: u16, got: u16)
     requires { lines.old.len + 61 ≤ length lines.old.out.now }
     ensures { Adds (wrong named class id n expect got) lines.old lines.new }

@@ -45,7 +45,7 @@ impl Teller for Listing {
     ghost gets_on = { listing_gets_on };
 }
 
-// A chunk: opened, its answers' lines, closed.
+// A chunk: opened, its answers' lines, closed. In the listing's own words, what `teller::tell` does with each chunk.
 pub fn through(
     rt: &(impl Print + Eprint),
     l: &mut Run<Listing>,

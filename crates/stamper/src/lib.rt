@@ -48,7 +48,7 @@ impl Teller for Stamping {
     ghost gets_on = { stamping_gets_on };
 }
 
-// A chunk: opened, stepped to its end, closed.
+// A chunk: opened, stepped to its end, closed. In the stamps' own words, what `teller::tell` does with each chunk.
 pub fn through(
     rt: &(impl Print + Eprint),
     l: &mut Run<Stamping>,

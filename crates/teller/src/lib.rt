@@ -138,7 +138,8 @@ fn finish<T: Teller>(rt: &(impl Print + Eprint), run: &mut Run<T>, lines: &mut L
 
 // Tells the reader's bytes in chunks of at most `chunk`'s length, between the first line and the last, with `name` for what is told
 // on standard error. It reads on until the input ends, or a read or a write fails. Nothing says that an input ends, so the reads are
-// counted, up to a number that no run comes to.
+// counted, up to a number that no run comes to. What a read gives and a write takes no clause can tell; what a chunk comes to is
+// `through`'s to say.
 pub fn tell<T: Teller>(
     rt: &(impl Print + Eprint),
     input: &mut impl Read,
