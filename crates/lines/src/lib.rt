@@ -16,7 +16,7 @@ pub const LONGEST: usize = 84;
 fn less(n: usize, k: usize) -> u64
     ensures { result ≡ n - k }
 {
-    if n < k { 0 } else { (n - k) as u64 }
+    n.saturating_sub(k) as u64
 }
 
 // An answer's line, where the parser is of this mode and earlier closes reported `before` bytes as used. Need more and refusals

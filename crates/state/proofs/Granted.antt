@@ -18,18 +18,9 @@ use Rattle.state.specs.Ready.{Ready}
 
 -- ---- a list of tests: `any_of` computes to nested picks
 
-pub any_here : (b x : Bool) → b ≡ true → pick b true x ≡ true
-unfolding pick
-any_here b x e = rw e
-
 pub any_next : (b x : Bool) → b ≡ false → pick b true x ≡ x
 unfolding pick
 any_next b x e = rw e
-
-pub any_last : (b : Bool) → pick b true false ≡ b
-unfolding pick
-any_last true = refl
-any_last false = refl
 
 abbrev pub AllFalse : List Bool → Type 0
 AllFalse [] = Unit {0}
@@ -96,11 +87,6 @@ module _ (s : State) (n m : ℕ) (h : Sound s n) where
   pub granted_open : s.«open» ≡ false → m ≤ 16384 → may_open s n m ≡ Ok tt
   unfolding may_open
   granted_open o f = rw (not_bad s n h, pick_false, o, pick_false, le-ltb _ _ f, pick_false)
-
--- an idle state with off, used and chunk length 0 is not bad for it
-pub zeros_idle : (s : State) → s.off ≡ 0 → s.used ≡ 0 → s.chunk ≡ 0 → any_of (ltb 0 s.off ∷ ltb 0 s.used ∷ ltb 0 s.chunk ∷ []) ≡ false
-zeros_idle s a b c =
-    any_none (ltb 0 s.off ∷ ltb 0 s.used ∷ ltb 0 s.chunk ∷ []) (le-ltb 0 s.off (omega arith), (le-ltb 0 s.used (omega arith), (le-ltb 0 s.chunk (omega arith), tt)))
 
 -- ---- a granted call, and its state
 

@@ -78,85 +78,48 @@ pub fn idle(mode: Mode, max: u16, cap: usize, live: usize) -> State
 }
 
 // Whether an idle state has off, used or a chunk length not 0.
+#[tactic(auto, unfolding(window::specs::Pick::pick))]
 fn idle_bad(s: State) -> bool
     ensures { result ≡ idle_bad s }
 {
-    if s.open {
-        return false;
-    }
-    if 0 < s.off {
-        return true;
-    }
-    if 0 < s.used {
-        return true;
-    }
-    0 < s.chunk
+    !s.open && (0 < s.off || 0 < s.used || 0 < s.chunk)
 }
 
 // Refusal 2, in the table's order, over a carry of so many bytes. Each test keeps the sums of the next from wrapping.
+#[tactic(auto, unfolding(crate::specs::Refusals::is_bad, window::specs::Pick::pick))]
 fn is_bad(s: State, carry_len: usize) -> bool
     ensures { result ≡ is_bad s carry_len }
 {
-    if carry_len != s.cap {
-        return true;
-    }
-    if LIMIT < s.cap {
-        return true;
-    }
-    if s.cap < s.live {
-        return true;
-    }
-    if s.live < s.off {
-        return true;
-    }
-    if s.chunk < s.part {
-        return true;
-    }
-    if LIMIT < s.chunk {
-        return true;
-    }
-    if COUNT_LIMIT < s.used {
-        return true;
-    }
-    if COUNT_LIMIT < s.used + ((s.live - s.off) + (s.chunk - s.part)) {
-        return true;
-    }
-    idle_bad(s)
+    carry_len != s.cap
+        || LIMIT < s.cap
+        || s.cap < s.live
+        || s.live < s.off
+        || s.chunk < s.part
+        || LIMIT < s.chunk
+        || COUNT_LIMIT < s.used
+        || COUNT_LIMIT < (s.live - s.off) + (s.chunk - s.part) + s.used
+        || idle_bad(s)
 }
 
 // Whether a state can be opened at once: where it can, no refusal comes. Tried first, so that the tests of the table, which
 // also find out the number, are made only where one is to be said.
+#[tactic(auto, unfolding(crate::specs::Refusals::may_open, crate::specs::Refusals::is_bad, window::specs::Pick::pick))]
 pub fn opens(s: State, carry_len: usize, chunk_len: usize) -> bool
     ensures { result ≡ true → may_open s carry_len chunk_len ≡ Ok tt }
 {
-    if s.open {
-        return false;
-    }
-    if s.cap != carry_len {
-        return false;
-    }
-    if LIMIT < carry_len {
-        return false;
-    }
-    if s.cap < s.live {
-        return false;
-    }
-    if s.off != 0 {
-        return false;
-    }
-    if s.used != 0 {
-        return false;
-    }
-    if s.chunk != 0 {
-        return false;
-    }
-    if s.part != 0 {
-        return false;
-    }
-    chunk_len <= LIMIT
+    !s.open
+        && s.cap == carry_len
+        && carry_len <= LIMIT
+        && s.live <= s.cap
+        && s.off == 0
+        && s.used == 0
+        && s.chunk == 0
+        && s.part == 0
+        && chunk_len <= LIMIT
 }
 
 // Opening: refusal 2, then 3, then 5.
+#[tactic(auto, unfolding(crate::specs::Refusals::may_open, window::specs::Pick::pick))]
 pub fn may_open(s: State, carry_len: usize, chunk_len: usize) -> Result<(), Refusal>
     ensures { result ≡ may_open s carry_len chunk_len }
 {
@@ -176,39 +139,24 @@ pub fn may_open(s: State, carry_len: usize, chunk_len: usize) -> Result<(), Refu
 }
 
 // Whether a state can be stepped or closed at once, likewise.
+#[tactic(auto, unfolding(crate::specs::Refusals::may_use, crate::specs::Refusals::is_bad, window::specs::Pick::pick))]
 pub fn is_usable(s: State, carry_len: usize, chunk_len: usize) -> bool
     ensures { result ≡ true → may_use s carry_len chunk_len ≡ Ok tt }
 {
-    if !s.open {
-        return false;
-    }
-    if s.cap != carry_len {
-        return false;
-    }
-    if LIMIT < carry_len {
-        return false;
-    }
-    if s.cap < s.live {
-        return false;
-    }
-    if s.live < s.off {
-        return false;
-    }
-    if s.chunk != chunk_len {
-        return false;
-    }
-    if LIMIT < s.chunk {
-        return false;
-    }
-    if s.chunk < s.part {
-        return false;
-    }
-    let w = (s.live - s.off) + (s.chunk - s.part);
-    s.used <= COUNT_LIMIT - w
+    s.open
+        && s.cap == carry_len
+        && carry_len <= LIMIT
+        && s.live <= s.cap
+        && s.off <= s.live
+        && s.chunk == chunk_len
+        && s.chunk <= LIMIT
+        && s.part <= s.chunk
+        && s.used <= COUNT_LIMIT - ((s.live - s.off) + (s.chunk - s.part))
 }
 
 // Stepping and closing: refusal 2, then 4, then 6. It is no one function with `may_open`: of the three tests of each two differ, and so
 // do their refusals.
+#[tactic(auto, unfolding(crate::specs::Refusals::may_use, window::specs::Pick::pick))]
 pub fn may_use(s: State, carry_len: usize, chunk_len: usize) -> Result<(), Refusal>
     ensures { result ≡ may_use s carry_len chunk_len }
 {

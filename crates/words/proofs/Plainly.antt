@@ -8,7 +8,6 @@ use lib.ListN.{get_or}
 use borrow.Author.Tests.{le-ltb}
 use Rattle.window.specs.Pick.{pick}
 use Rattle.window.specs.declared.Mode.{Mode}
-use Rattle.state.specs.declared.State.{State}
 use Rattle.words.specs.Words.{open_no, read_mode, state_by, read_state}
 
 pub plainly : (w : List ℕ) (mode : Mode) (o : Bool) → get_or w 1 0 ≤ 65535 → get_or w 6 0 ≡ open_no o → read_mode (get_or w 0 0) ≡ Some mode

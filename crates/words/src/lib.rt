@@ -65,13 +65,11 @@ pub fn leave_no(leave: Result<(), Refusal>) -> u64
 }
 
 // Whether words are no state's, whatever its mode: MAX over 65,535, open not 0 or 1.
+#[tactic(auto, unfolding(window::specs::Pick::pick))]
 fn max_or_open_too_big(words: &[u64; 24]) -> bool
     ensures { result ≡ max_or_open_too_big words.now }
 {
-    if 65535 < words[1] {
-        return true;
-    }
-    1 < words[6]
+    65535 < words[1] || 1 < words[6]
 }
 
 // The state of a mode that the other words say.
@@ -93,6 +91,7 @@ fn state_by(mode: Mode, words: &[u64; 24]) -> State
 }
 
 // The state that words say, if they are one's.
+#[tactic(auto, unfolding(crate::specs::Words::read_state, window::specs::Pick::pick))]
 pub fn read_state(words: &[u64; 24]) -> Option<State>
     ensures { result ≡ read_state words.now }
 {

@@ -1,6 +1,5 @@
 -- `words::read_mode` meets its contract: a number after the other.
 use Rattle.std.proofs.Common.{rules}
-use borrow.Author.Tests.{ne_eqb}
 use Rattle.window.specs.Pick.{pick}
 use Rattle.words.proofs.read_mode.Goals as goal
 

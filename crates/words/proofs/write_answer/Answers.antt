@@ -1,6 +1,5 @@
 -- `words::write_answer` meets its contract.
 use mathlib.Core.Path.{◌∙◌}
-use borrow.Author.Rules.{rules}
 use Rattle.words.proofs.write_answer.Goals as goal
 
 pub returns-in-UbxFrame : goal.returns-in-UbxFrame

@@ -1,5 +1,4 @@
 -- `words::write_frame` meets its contract.
-use borrow.Author.Rules.{rules}
 use Rattle.words.proofs.write_frame.Goals as goal
 
 pub returns : goal.returns

@@ -1,6 +1,5 @@
 -- `words::write_hand` meets its contract.
 use mathlib.Core.Path.{◌∙◌}
-use borrow.Author.Rules.{rules}
 use Rattle.words.proofs.write_hand.Goals as goal
 
 pub returns-in-Ubx : goal.returns-in-Ubx

@@ -1,5 +1,4 @@
 -- `words::write_state` meets its contract: nine stores, one behind the other.
-use borrow.Author.Rules.{rules}
 use Rattle.words.proofs.write_state.Goals as goal
 
 pub returns : goal.returns
