@@ -20,7 +20,7 @@ pub fn placed(lines: &mut Lines, before: u64, p: usize, label: &[u8], n: u64)
     lines.sized(label, n);
 }
 
-// A UBX frame's line behind its position.
+// A UBX frame's line behind its position. Class, id and length come apart, as an answer has them.
 pub fn ubx(lines: &mut Lines, class: u8, id: u8, n: u64)
     requires { lines.old.len + 36 ≤ length lines.old.out.now }
     ensures { Adds (ubx class id n) lines.old lines.new }
@@ -44,7 +44,7 @@ fn compared(lines: &mut Lines, label: &[u8], places: usize, expect: u32, got: u3
     lines.hex(places, got);
 }
 
-// A wrong sum's line behind its position. `named` is the listing's own setting, no sign of a frame that is missing: with class, id and length of the frame.
+// A wrong sum's line behind its position; `named`, which is the listing's own setting: with class, id and length of the frame.
 pub fn wrong(lines: &mut Lines, named: bool, class: u8, id: u8, n: usize, expect: u16, got: u16)
     requires { lines.old.len + 61 ≤ length lines.old.out.now }
     ensures { Adds (wrong named class id n expect got) lines.old lines.new }

@@ -190,7 +190,7 @@ fn write_frame(out: &mut [u64; 8], number: u64, at: u64, class: u64, id: u64, pl
     ];
 }
 
-// A wrong sum: its position, the two sums, and class, id and length of the head.
+// A wrong sum: its position, the two sums, and class, id and length of the head, apart as an answer has them.
 pub fn write_wrong(
     out: &mut [u64; 8],
     at: usize,
