@@ -193,7 +193,8 @@ fn look_at(mode: Mode, max: u16, cap: usize, window: Window, k: usize) -> Sight
     look::look(mode, max, cap, window.rest(k))
 }
 
-// Looks, and passes what is to be passed, until something is to be said. The bytes up to the next sync byte go at once.
+// Looks, and passes what is to be passed, until something is to be said. The bytes up to the next sync byte go at once, so the loop
+// goes on by the search and counts nothing.
 pub fn seek(mode: Mode, max: u16, cap: usize, window: Window) -> Stop
     ensures { Stops mode max cap (length window.entry.carry.now) (bytes window.entry) result.skip result.verdict }
 {

@@ -50,7 +50,8 @@ impl<'a> Lines<'a> {
         self.text(&digits[..k]);
     }
 
-    // A number's last hexadecimal digits, so many of them, the high one first.
+    // A number's last hexadecimal digits, so many of them, the high one first: it calls itself for those before the last, as its
+    // definition does.
     pub fn hex(&mut self, places: usize, n: u32)
         requires { self.old.len + places ≤ length self.old.out.now }
         ensures adds { Adds (hex places n) self.old self.new }
