@@ -301,7 +301,7 @@ impl<'a> Window<'a> {
         parity::update(first, &self.chunk[..end])
     }
 
-    // The first CR that is followed at once by LF.
+    // The first CR that is followed at once by LF. It leaps from CR to CR, and leaves by break, as 01 names the form.
     pub fn find_end(self) -> Option<usize>
         ensures { result ≡ end_mark 0 (bytes self.entry) }
     {
