@@ -1,4 +1,5 @@
-// The lent carry's two writes. Rust: parser/buffer.rs, `FixedLinearBuffer`; its `clear` is `drain` with nothing left.
+// The lent carry's two writes. C lends it whole, with how many of its bytes are live beside it. Rust: parser/buffer.rs,
+// `FixedLinearBuffer`; its `clear` is `drain` with nothing left.
 #![tactic(auto)]
 
 ghost use Rattle.std.specs.Prelude.{◌≡◌, ◌+◌, ◌-◌, ◌≤◌, length, take, drop};

@@ -8,7 +8,7 @@ ghost use Rattle.ends.specs.Ends.{mode_no, setting, header, totals};
 use text::Lines;
 use window::Mode;
 
-// The number that 01 gives a mode.
+// The number that 01 gives a mode, which the first line has.
 fn mode_no(mode: Mode) -> u64
     ensures { result ≡ mode_no mode }
 {

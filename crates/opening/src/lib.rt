@@ -10,12 +10,14 @@ ghost use Rattle.opening.specs.Promises.{Opens, Closes};
 use state::{LIMIT, Refusal, State};
 use window::{Mode, least};
 
+// Not a Result with the state: a refusal has a next state too, which `Opens` and `Closes` say; a refused start's has C = 0.
 #[derive(Clone, Copy)]
 pub struct Opened {
     pub leave: Result<(), Refusal>,
     pub state: State,
 }
 
+// Likewise; a refused close reports 0, 0, 0.
 #[derive(Clone, Copy)]
 pub struct Closed {
     pub leave: Result<(), Refusal>,

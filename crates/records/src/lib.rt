@@ -15,7 +15,7 @@ ghost use Rattle.records.specs.Words.{state_of, out_of};
 
 use std::array;
 
-// calls.bin, refusals.bin.
+// calls.bin, refusals.bin. A program names its list, and asks numbers of it, no step: nothing that a closure would say.
 #[derive(Clone, Copy)]
 pub enum List {
     Calls,

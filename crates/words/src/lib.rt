@@ -55,6 +55,7 @@ fn side_no(side: Side) -> u64
     }
 }
 
+// What C is answered: the refusal's number, and 0 where there is none.
 pub fn leave_no(leave: Result<(), Refusal>) -> u64
     ensures { result ≡ leave_no leave }
 {

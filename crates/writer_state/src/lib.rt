@@ -46,7 +46,7 @@ impl From<Refusal> for u64 {
     }
 }
 
-// The refusal's number, and 0 where there is none.
+// What C is answered: the refusal's number, and 0 where there is none.
 pub fn leave_no(leave: Result<(), Refusal>) -> u64
     ensures { result ≡ leave_no leave }
 {
