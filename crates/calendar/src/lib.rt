@@ -49,7 +49,8 @@ fn days_before_year(year: u64) -> u64
     365 * (year - 1970) + (year - 1969) / 4 + (year - 1601) / 400 - (year - 1901) / 100
 }
 
-// Days since 1970-01-01.
+// Days since 1970-01-01. A month is a number here and in the two functions that it calls: a type with the range would be built by each caller
+// from a number, and taken apart in each.
 #[tactic(auto, using(crate::proofs::Calendar::years_bound, crate::proofs::Calendar::months_bound), unfolding(crate::specs::Calendar::day_number))]
 pub fn day_number(year: u64, month: u64, day: u64) -> u64
     requires le_year { (1970 ≤ year) × (year ≤ 65535) }

@@ -43,7 +43,7 @@ pub fn extend(carry: &mut [u8], live: usize, from: &[u8], n: usize) -> usize
     live + n
 }
 
-// The copy of `extend`, byte by byte.
+// The copy of `extend`, byte by byte. The two copies ask what `extend` asks, and have no caller but it.
 #[tactic(auto, using(crate::proofs::Laws::copy_goes_on))]
 fn extend_by_bytes(carry: &mut [u8], live: usize, from: &[u8], n: usize)
     requires { (live + n ≤ length carry.old) × (n ≤ length from.now) }

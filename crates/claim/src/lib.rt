@@ -21,7 +21,8 @@ const RTCM_PARITY_LEN: usize = 3;
 
 pub const NMEA_END_CHARS_LEN: usize = 2;
 
-// What a UBX head says of its frame: class, id, and n, the payload's length.
+// What a UBX head says of its frame: class, id, and n, the payload's length. That n is below 65,536 is asked where it is needed and is no
+// fact of the type: `judged` promises what it says of any n.
 #[derive(Clone, Copy)]
 pub struct UbxHead {
     pub class: u8,

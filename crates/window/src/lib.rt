@@ -232,7 +232,7 @@ impl<'a> Window<'a> {
         }
     }
 
-    // What is left behind the first k bytes.
+    // What is left behind the first k bytes. That k lies within the window is each search's own to ask: it is no window's fact.
     #[tactic(auto, using(crate::proofs::Laws::from, crate::proofs::Laws::drop_two))]
     pub fn rest(self, k: usize) -> Window<'a>
         requires { k ≤ width self }
