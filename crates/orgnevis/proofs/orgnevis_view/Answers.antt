@@ -12,6 +12,6 @@ returns-in_default c = search rules
 pub returns : goal.returns
 unfolding views pick
 returns c = c.leave_no.ensures ∙ rw (c.may_view.ensures, c.place_on.ensures) (elim c.match-side.branch [
-    | in-0 w ↦ rw (w.side-is, w.in-0.is)
-    | in-1 w ↦ rw (w.side-is, w.in-1.is)
-  ])
+  | in-0 w ↦ rw (w.side-is, w.in-0.is)
+  | in-1 w ↦ rw (w.side-is, w.in-1.is)
+])
