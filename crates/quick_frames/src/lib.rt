@@ -1,5 +1,6 @@
 // A frame that is claimed at the window's front: it waits, is handed out, or its sum is wrong. Where none of this is done here,
 // nothing is written.
+// That a frame is claimed there is asked of each kind: a type for it would be built by quick_step alone, and taken apart at once.
 #![tactic(auto)]
 
 ghost use Rattle.std.specs.Prelude.{◌≡◌, false, ◌+◌, ◌≤◌, ◌<◌};

@@ -1,5 +1,6 @@
 // What a step writes into the words at once: need more, a wrong sum, or a frame that one side has all of or that the carry takes
 // in.
+// The functions that look at no lent byte ask of the state's numbers what they need and no more: it is less than `Lent` has.
 #![tactic(auto)]
 
 ghost use Rattle.std.specs.Prelude.{◌≡◌, true, List, ℕ, ◌+◌, ◌-◌, ◌≤◌, ◌<◌};
