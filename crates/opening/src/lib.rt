@@ -82,7 +82,7 @@ pub fn open(s: State, carry: &[u8], chunk: &[u8]) -> Opened
     }
 }
 
-// A close that is not refused. The next state is in the answer, and the lent one stays: no chunk fits the next.
+// A close that is not refused. The next state is in the answer alone: it is idle and has no chunk, so what is lent does not fit it.
 pub fn close_well(p: &mut Lent) -> Closed
     ensures value { result ≡ (close_on p.old.state p.old.carry.now p.old.chunk.now (Ok tt)).result }
     ensures carry_after { p.new.carry.now ≡ (close_on p.old.state p.old.carry.now p.old.chunk.now (Ok tt)).carry }

@@ -1,5 +1,5 @@
-// The ways that most steps go, written straight into the words. A step that goes another way is not done here, and then nothing
-// is written.
+// The ways that most steps go, written straight into the words, which then have the next state: the lent one is only past the noise.
+// A step that goes another way is not done here, and then neither the words nor the carry are written.
 #![tactic(auto)]
 
 ghost use Rattle.std.specs.Prelude.{◌≡◌, true, false, ◌⊎◌, get_or};

@@ -1,4 +1,5 @@
-// A state, with the carry and the chunk that are lent to a call that is not refused.
+// A state, with the carry and the chunk that are lent to a call that is not refused. A call that may be refused takes the three apart:
+// until it is granted, they may not fit. So does `window_of`, which asks less, and so do the programs.
 #![tactic(auto)]
 
 ghost use Rattle.state.specs.Ready.{Ready};
