@@ -87,6 +87,7 @@ pub fn close_well(p: &mut Lent) -> Closed
     ensures value { result ≡ (close_on p.old.state p.old.carry.now p.old.chunk.now (Ok tt)).result }
     ensures carry_after { p.new.carry.now ≡ (close_on p.old.state p.old.carry.now p.old.chunk.now (Ok tt)).carry }
     ensures name { p.new.carry.ghost_name ≡ p.old.carry.ghost_name }
+    ensures chunk { p.new.chunk.now ≡ p.old.chunk.now }
 {
     let s = p.state;
     let rest = s.chunk - s.part;

@@ -21,6 +21,7 @@ fn ubx_across(p: &mut Lent, words: &mut [u64; 24], out: &mut [u64; 8], head: Ubx
     requires s_bound { (left_len p.old.state < head.n + 8) × (head.n + 8 ≤ width p.old.state) }
     ensures quickly { Quickly result (step_from p.old.state p.old.carry.now p.old.chunk.now) words.old words.new out.new p.old.carry.now p.new.carry.now }
     ensures name { p.new.carry.ghost_name ≡ p.old.carry.ghost_name }
+    ensures chunk { p.new.chunk.now ≡ p.old.chunk.now }
 {
     let s = p.state;
     let UbxHead { class, id, n } = head;
@@ -48,6 +49,7 @@ pub fn at_ubx(p: &mut Lent, words: &mut [u64; 24], out: &mut [u64; 8], head: Ubx
     requires n_bound { head.n < 65536 }
     ensures quickly { Quickly result (step_from p.old.state p.old.carry.now p.old.chunk.now) words.old words.new out.new p.old.carry.now p.new.carry.now }
     ensures name { p.new.carry.ghost_name ≡ p.old.carry.ghost_name }
+    ensures chunk { p.new.chunk.now ≡ p.old.chunk.now }
 {
     let s = p.state;
     let UbxHead { class, id, n } = head;
@@ -83,6 +85,7 @@ pub fn at_rtcm(p: &mut Lent, words: &mut [u64; 24], out: &mut [u64; 8], n: usize
     requires n_bound { n < 1024 }
     ensures quickly { Quickly result (step_from p.old.state p.old.carry.now p.old.chunk.now) words.old words.new out.new p.old.carry.now p.new.carry.now }
     ensures name { p.new.carry.ghost_name ≡ p.old.carry.ghost_name }
+    ensures chunk { p.new.chunk.now ≡ p.old.chunk.now }
 {
     let s = p.state;
     let left = s.live - s.off;

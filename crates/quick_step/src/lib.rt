@@ -17,6 +17,7 @@ fn at_front(p: &mut Lent, words: &mut [u64; 24], out: &mut [u64; 8]) -> bool
     requires fact { (width p.old.state ≡ 0) ⊎ (is_sync p.old.state.mode (get_or (window p.old.state p.old.carry.now p.old.chunk.now) 0 0) ≡ true) }
     ensures quickly { Quickly result (step_from p.old.state p.old.carry.now p.old.chunk.now) words.old words.new out.new p.old.carry.now p.new.carry.now }
     ensures name { p.new.carry.ghost_name ≡ p.old.carry.ghost_name }
+    ensures chunk { p.new.chunk.now ≡ p.old.chunk.now }
 {
     let s = p.state;
     let f = seek::first_of(p.window());
@@ -62,6 +63,7 @@ pub fn step_at_once(p: &mut Lent, words: &mut [u64; 24], out: &mut [u64; 8]) -> 
     requires mode_value { has_parity p.old.state.mode ≡ false }
     ensures quickly { Quickly result (step_from p.old.state p.old.carry.now p.old.chunk.now) words.old words.new out.new p.old.carry.now p.new.carry.now }
     ensures name { p.new.carry.ghost_name ≡ p.old.carry.ghost_name }
+    ensures chunk { p.new.chunk.now ≡ p.old.chunk.now }
 {
     p.state = past_noise(p);
     at_front(p, words, out)

@@ -106,6 +106,7 @@ pub fn bring(
     requires kind_bound { (skip kind + size kind ≤ width p.old.state) × ((skip kind < left_len p.old.state) × ((left_len p.old.state < skip kind + size kind) × (skip kind + size kind - left_len p.old.state < p.old.state.cap - p.old.state.live))) }
     ensures leaves { Leaves (say p.old.state p.old.carry.now p.old.chunk.now (Hand kind)) words.old words.new out.new p.new.carry.now }
     ensures name { p.new.carry.ghost_name ≡ p.old.carry.ghost_name }
+    ensures chunk { p.new.chunk.now ≡ p.old.chunk.now }
 {
     let s = p.state;
     let at = s.used;
