@@ -1,4 +1,3 @@
-pub mod Ready
 pub mod Account
 pub mod Turns
 pub mod Slices

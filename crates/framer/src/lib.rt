@@ -5,12 +5,11 @@
 ghost use Rattle.std.specs.Prelude.{◌≡◌, ◌≤◌};
 ghost use Rattle.look.specs.Within.{Says};
 ghost use Rattle.state.specs.Words.{left_len, width, drain};
-ghost use Rattle.state.specs.Ready.{Ready};
 ghost use Rattle.framer.specs.Step.{frame_at, tale_at, say, step_from, step};
-ghost use Rattle.framer.specs.Promises.{Steps};
+ghost use Rattle.framer.specs.Promises.{Said, Steps};
 
 use claim::{Kind, Tale, Verdict};
-use state::{Refusal, State};
+use state::{Lent, Refusal, State};
 use taking::Place;
 
 // What a step answers; `at` is the position, `used` at the sync byte.
@@ -98,41 +97,36 @@ fn tale_at(tale: Tale, at: usize) -> Answer
 }
 
 // What is said of a state whose first `skip` bytes are passed.
-fn said(s: State, carry: &mut [u8], chunk: &[u8], skip: usize, v: Verdict) -> Stepped
-    requires ready { Ready s carry.old chunk.now }
-    requires skip_bound { (skip ≤ width s) × Says s.cap (left_len (drain skip s)) (width (drain skip s)) v }
-    ensures value { result ≡ (say (drain skip s) carry.old chunk.now v).result }
-    ensures carry_after { carry.new ≡ (say (drain skip s) carry.old chunk.now v).carry }
+fn said(p: &mut Lent, skip: usize, v: Verdict) -> Answer
+    requires skip_bound { (skip ≤ width p.old.state) × Says p.old.state.cap (left_len (drain skip p.old.state)) (width (drain skip p.old.state)) v }
+    ensures { Said (say (drain skip p.old.state) p.old.carry.now p.old.chunk.now v) p.old p.new result }
 {
+    let s = p.state;
     let at = s.used + skip;
     match v {
-        Verdict::Wait(k) => Stepped {
-            answer: Answer::NeedMore,
-            state: state::drained(s, skip + k),
-        },
-        Verdict::Tell(tale) => Stepped {
-            answer: tale_at(tale, at),
-            state: state::drained(s, skip + claim::cost(tale)),
-        },
+        Verdict::Wait(k) => {
+            p.state = state::drained(s, skip + k);
+            Answer::NeedMore
+        }
+        Verdict::Tell(tale) => {
+            p.state = state::drained(s, skip + claim::cost(tale));
+            tale_at(tale, at)
+        }
         Verdict::Hand(kind) => {
-            let here = state::drained(s, skip + claim::skip(kind));
-            let taken = taking::take(here, carry, chunk, claim::size(kind));
-            Stepped {
-                answer: frame_at(kind, at, taken.place),
-                state: taken.state,
-            }
+            p.state = state::drained(s, skip + claim::skip(kind));
+            let place = taking::take(p, claim::size(kind));
+            frame_at(kind, at, place)
         }
     }
 }
 
 // A step that is not refused: it looks for what is to be said, and says it.
-fn step_well(s: State, carry: &mut [u8], chunk: &[u8]) -> Stepped
-    requires { Ready s carry.old chunk.now }
-    ensures value { result ≡ (step_from s carry.old chunk.now).result }
-    ensures carry_after { carry.new ≡ (step_from s carry.old chunk.now).carry }
+fn step_well(p: &mut Lent) -> Answer
+    ensures { Said (step_from p.old.state p.old.carry.now p.old.chunk.now) p.old p.new result }
 {
-    let stop = seek::seek(s.mode, s.max, s.cap, state::window_of(s, carry, chunk));
-    said(s, carry, chunk, stop.skip, stop.verdict)
+    let s = p.state;
+    let stop = seek::seek(s.mode, s.max, s.cap, p.window());
+    said(p, stop.skip, stop.verdict)
 }
 
 // The next answer of an open state. Refusals 2, 4 and 6.
@@ -144,6 +138,17 @@ pub fn step(s: State, carry: &mut [u8], chunk: &[u8]) -> Stepped
             answer: Answer::Refused(refusal),
             state: s,
         },
-        Ok(()) => step_well(s, carry, chunk),
+        Ok(()) => {
+            let mut p = Lent {
+                state: s,
+                carry,
+                chunk,
+            };
+            let answer = step_well(&mut p);
+            Stepped {
+                answer,
+                state: p.state,
+            }
+        }
     }
 }

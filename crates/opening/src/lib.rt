@@ -7,7 +7,7 @@ ghost use Rattle.state.specs.Ready.{Ready};
 ghost use Rattle.opening.specs.Operations.{start, noted, open_on, opening, close_on, closing};
 ghost use Rattle.opening.specs.Promises.{Opens, Closes};
 
-use state::{LIMIT, Refusal, State};
+use state::{LIMIT, Lent, Refusal, State};
 use window::{Mode, least};
 
 // Not a Result with the state: a refusal has a next state too, which `Opens` and `Closes` say; a refused start's has C = 0.
@@ -44,6 +44,7 @@ pub fn start(carry: &[u8], mode: Mode, max: u16) -> Opened
 }
 
 // An opening that is not refused. Where the carry begins with a sync byte, there is nothing to look for.
+// It takes no `Lent`: an opening only reads the carry, and a `Lent` has it to be written.
 fn open_well(s: State, carry: &[u8], chunk: &[u8]) -> State
     requires { Ready (noted s (length chunk.now)) carry.now chunk.now }
     ensures { result ≡ (open_on s carry.now chunk.now (Ok tt)).state }
@@ -81,16 +82,18 @@ pub fn open(s: State, carry: &[u8], chunk: &[u8]) -> Opened
     }
 }
 
-// A close that is not refused.
-pub fn close_well(s: State, carry: &mut [u8], chunk: &[u8]) -> Closed
-    requires { Ready s carry.old chunk.now }
-    ensures value { result ≡ (close_on s carry.old chunk.now (Ok tt)).result }
-    ensures carry_after { carry.new ≡ (close_on s carry.old chunk.now (Ok tt)).carry }
+// A close that is not refused. The next state is in the answer alone: it is idle and has no chunk, so what is lent does not fit it.
+pub fn close_well(p: &mut Lent) -> Closed
+    ensures value { result ≡ (close_on p.old.state p.old.carry.now p.old.chunk.now (Ok tt)).result }
+    ensures carry_after { p.new.carry.now ≡ (close_on p.old.state p.old.carry.now p.old.chunk.now (Ok tt)).carry }
+    ensures name { p.new.carry.ghost_name ≡ p.old.carry.ghost_name }
+    ensures chunk { p.new.chunk.now ≡ p.old.chunk.now }
 {
+    let s = p.state;
     let rest = s.chunk - s.part;
-    let left = carry::drain(carry, s.live, s.off);
+    let left = carry::drain(p.carry, s.live, s.off);
     let n = least(rest, s.cap - left);
-    let kept = carry::extend(carry, left, &chunk[s.part..], n);
+    let kept = carry::extend(p.carry, left, &p.chunk[s.part..], n);
     Closed {
         leave: Ok(()),
         used: s.used,
@@ -112,6 +115,13 @@ pub fn close(s: State, carry: &mut [u8], chunk: &[u8]) -> Closed
             lost: 0,
             state: s,
         },
-        Ok(()) => close_well(s, carry, chunk),
+        Ok(()) => {
+            let mut p = Lent {
+                state: s,
+                carry,
+                chunk,
+            };
+            close_well(&mut p)
+        }
     }
 }

@@ -7,6 +7,7 @@ pub mod writes;
 ghost use Rattle.std.specs.Prelude.{◌≡◌, length};
 ghost use Rattle.orgnevis.specs.Calls.{starts, opens, steps, closes, views};
 
+use state::Lent;
 use taking::Side;
 
 // A fresh parser. Answers 0, 1, or 8 for a mode's number that isn't one, which writes nothing.
@@ -85,7 +86,12 @@ pub fn orgnevis_step(state: &mut [u64; 24], carry: &mut [u8], chunk: &[u8], out:
         None => full_step(state, carry, chunk, out),
         Some(s) => {
             if state::is_usable(s, carry.len(), chunk.len()) {
-                if quick_step::step_at_once(s, state, carry, chunk, out) {
+                let mut p = Lent {
+                    state: s,
+                    carry,
+                    chunk,
+                };
+                if quick_step::step_at_once(&mut p, state, out) {
                     return;
                 }
                 full_step(state, carry, chunk, out)

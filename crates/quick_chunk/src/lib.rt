@@ -7,7 +7,7 @@ ghost use Rattle.opening.specs.Operations.{closing};
 ghost use Rattle.words.specs.Words.{closed_words, close_words};
 ghost use Rattle.quick_chunk.specs.AtOnce.{opened_if};
 
-use state::State;
+use state::{Lent, State};
 
 // An opening that is granted, where the carry begins with a sync byte or has no live byte; another is not done, and writes
 // nothing.
@@ -57,7 +57,12 @@ pub fn close_at_once(
     ensures out_after { out.new ≡ close_words (closing s carry.old chunk.now).result }
     ensures carry_after { carry.new ≡ (closing s carry.old chunk.now).carry }
 {
-    let report = opening::close_well(s, carry, chunk);
+    let mut p = Lent {
+        state: s,
+        carry,
+        chunk,
+    };
+    let report = opening::close_well(&mut p);
     words::write_closed(report.kept, state);
     words::write_report(
         out,

@@ -1,5 +1,6 @@
 // What a step writes into the words at once: need more, a wrong sum, or a frame that one side has all of or that the carry takes
 // in.
+// The functions that look at no lent byte ask of the state's numbers what they need and no more: it is less than `Lent` has.
 #![tactic(auto)]
 
 ghost use Rattle.std.specs.Prelude.{◌≡◌, true, List, ℕ, ◌+◌, ◌-◌, ◌≤◌, ◌<◌};
@@ -9,12 +10,11 @@ ghost use Rattle.claim.specs.declared.Verdict.TheVariants.{Wait, Tell, Hand};
 ghost use Rattle.claim.specs.Sizes.{skip, size};
 ghost use Rattle.seek.specs.OneSide.{OnOneSide};
 ghost use Rattle.state.specs.Words.{left_len, width};
-ghost use Rattle.state.specs.Ready.{Ready};
 ghost use Rattle.framer.specs.Step.{say};
 ghost use Rattle.quick_words.specs.Quickly.{Leaves};
 
 use claim::{Kind, UbxHead};
-use state::State;
+use state::{Lent, State};
 use sum::Sums;
 use taking::{Place, Side};
 
@@ -95,27 +95,28 @@ pub fn hand(
 
 // A frame on both sides is handed out in the carry, where the chunk's share is less than the room behind the live bytes.
 pub fn bring(
-    s: State,
+    p: &mut Lent,
     words: &mut [u64; 24],
-    carry: &mut [u8],
-    chunk: &[u8],
     out: &mut [u64; 8],
     kind: Kind,
     before: usize,
     len: usize,
 )
     requires before_value { (before ≡ skip kind) × (len ≡ size kind) }
-    requires ready { Ready s carry.old chunk.now }
-    requires kind_bound { (skip kind + size kind ≤ width s) × ((skip kind < left_len s) × ((left_len s < skip kind + size kind) × (skip kind + size kind - left_len s < s.cap - s.live))) }
-    ensures { Leaves (say s carry.old chunk.now (Hand kind)) words.old words.new out.new carry.new }
+    requires kind_bound { (skip kind + size kind ≤ width p.old.state) × ((skip kind < left_len p.old.state) × ((left_len p.old.state < skip kind + size kind) × (skip kind + size kind - left_len p.old.state < p.old.state.cap - p.old.state.live))) }
+    ensures leaves { Leaves (say p.old.state p.old.carry.now p.old.chunk.now (Hand kind)) words.old words.new out.new p.new.carry.now }
+    ensures name { p.new.carry.ghost_name ≡ p.old.carry.ghost_name }
+    ensures chunk { p.new.chunk.now ≡ p.old.chunk.now }
 {
+    let s = p.state;
     let at = s.used;
     let body = State {
         off: s.off + before,
         used: at + before,
         ..s
     };
-    let taken = taking::take_grow(body, carry, chunk, len);
+    let chunk = p.chunk;
+    let taken = taking::take_grow(body, p.carry, chunk, len);
     let next = taken.state;
     words::write_stepped(next, words);
     let place = taken.place;

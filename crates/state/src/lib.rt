@@ -9,6 +9,10 @@ ghost use Rattle.state.specs.Refusals.{refusal_no, idle_bad, is_bad, may_open, m
 
 use window::{Mode, Window};
 
+mod lent;
+
+pub use lent::Lent;
+
 // The longest carry, and the longest chunk.
 pub const LIMIT: usize = 16384;
 
@@ -184,6 +188,16 @@ pub fn window_of<'a>(s: State, carry: &'a [u8], chunk: &'a [u8]) -> Window<'a>
     Window {
         carry: &carry[s.off..s.live],
         chunk: &chunk[s.part..],
+    }
+}
+
+impl<'a> Lent<'a> {
+    // The window.
+    pub fn window(&self) -> Window<'_>
+        ensures carry_left { result.carry.now ≡ left self.now.state self.now.carry.now }
+        ensures chunk_ahead { result.chunk.now ≡ ahead self.now.state self.now.chunk.now }
+    {
+        window_of(self.state, self.carry, self.chunk)
     }
 }
 

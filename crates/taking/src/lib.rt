@@ -5,9 +5,10 @@ ghost use Rattle.std.specs.Prelude.{◌≡◌, ◌<◌, length};
 ghost use Rattle.state.specs.Words.{left_len};
 ghost use Rattle.state.specs.Ready.{Ready, Room};
 ghost use Rattle.taking.specs.Take.{take_grow, take_shift, taking};
+ghost use Rattle.taking.specs.Takes.{Takes};
 ghost use Rattle.taking.specs.View.{view_leave, may_view, view_in, view};
 
-use state::{Refusal, State};
+use state::{Lent, Refusal, State};
 use window::least;
 
 // The two lent buffers.
@@ -33,6 +34,7 @@ pub struct Taken {
 }
 
 // t bytes taken on both sides, where the chunk's share is less than the room behind the live bytes: that is filled.
+// It takes no `Lent`: a caller may ask for more than that room, and what it then leaves is not `Ready`.
 pub fn take_grow(s: State, carry: &mut [u8], chunk: &[u8], t: usize) -> Taken
     requires ready { Ready s carry.old chunk.now }
     requires room { Room s t }
@@ -57,69 +59,68 @@ pub fn take_grow(s: State, carry: &mut [u8], chunk: &[u8], t: usize) -> Taken
 }
 
 // t bytes taken on both sides, where it is not: the carry is drained by `off` first, and the share is copied alone.
-fn take_shift(s: State, carry: &mut [u8], chunk: &[u8], t: usize) -> Taken
-    requires ready { Ready s carry.old chunk.now }
-    requires room { Room s t }
-    requires s_nonzero { (0 < left_len s) × (left_len s < t) }
-    ensures value { result ≡ (take_shift s carry.old chunk.now t).result }
-    ensures carry_after { carry.new ≡ (take_shift s carry.old chunk.now t).carry }
+fn take_shift(p: &mut Lent, t: usize) -> Place
+    requires room { Room p.old.state t }
+    requires s_nonzero { (0 < left_len p.old.state) × (left_len p.old.state < t) }
+    ensures { Takes (take_shift p.old.state p.old.carry.now p.old.chunk.now t) p.old p.new result }
 {
-    let left = carry::drain(carry, s.live, s.off);
+    let s = p.state;
+    let left = carry::drain(p.carry, s.live, s.off);
     let m = t - left;
-    let live = carry::extend(carry, left, &chunk[s.part..], m);
-    let state = State {
+    let live = carry::extend(p.carry, left, &p.chunk[s.part..], m);
+    p.state = State {
         live,
         off: t,
         used: s.used + t,
         part: s.part + m,
         ..s
     };
-    let place = Place {
+    Place {
         side: Side::Carry,
         start: 0,
         len: t,
-    };
-    Taken { place, state }
+    }
 }
 
 // The window's first t bytes taken: on one side they stay where they are, on both they are brought to the carry.
-pub fn take(s: State, carry: &mut [u8], chunk: &[u8], t: usize) -> Taken
-    requires ready { Ready s carry.old chunk.now }
-    requires room { Room s t }
-    ensures value { result ≡ (taking s carry.old chunk.now t).result }
-    ensures carry_after { carry.new ≡ (taking s carry.old chunk.now t).carry }
+#[tactic(auto, unfolding(crate::specs::Take::taking, window::specs::Pick::pick))]
+pub fn take(p: &mut Lent, t: usize) -> Place
+    requires room { Room p.old.state t }
+    ensures { Takes (taking p.old.state p.old.carry.now p.old.chunk.now t) p.old p.new result }
 {
+    let s = p.state;
     let left = s.live - s.off;
     if left == 0 {
-        let state = State {
+        p.state = State {
             used: s.used + t,
             part: s.part + t,
             ..s
         };
-        let place = Place {
+        return Place {
             side: Side::Chunk,
             start: s.part,
             len: t,
         };
-        return Taken { place, state };
     }
     if t <= left {
-        let state = State {
+        p.state = State {
             off: s.off + t,
             used: s.used + t,
             ..s
         };
-        let place = Place {
+        return Place {
             side: Side::Carry,
             start: s.off,
             len: t,
         };
-        return Taken { place, state };
     }
     if t - left < s.cap - s.live {
-        return take_grow(s, carry, chunk, t);
+        let chunk = p.chunk;
+        let taken = take_grow(s, p.carry, chunk, t);
+        p.state = taken.state;
+        return taken.place;
     }
-    take_shift(s, carry, chunk, t)
+    take_shift(p, t)
 }
 
 // Refusal 7, where a place passes the end of its side.

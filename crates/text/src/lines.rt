@@ -1,4 +1,4 @@
-// Lines in a lent buffer.
+// Lines in a lent buffer. How much room a line needs is each line's own to ask: it is no fact of the buffer.
 #![tactic(auto)]
 
 ghost use Rattle.std.specs.Prelude.{◌≤◌, length};

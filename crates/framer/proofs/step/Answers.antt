@@ -1,12 +1,13 @@
 -- `framer::step` meets its contract.
+use Rattle.std.proofs.Common.{rules}
 use mathlib.Core.Path.{refl, sym, ◌∙◌}
 use Rattle.state.proofs.Granted.{use_granted}
 use Rattle.framer.specs.Step.{step}
 use Rattle.framer.proofs.step.Goals as goal
 
-pub step_well-requires : goal.step_well-requires
-step_well-requires c = let x = c.args in
-    (use_granted x.s x.carry.now x.chunk.now (sym c.may_use.ensures ∙ c.in-Ok.is)).ready
+pub invariant_of-p : goal.invariant_of-p
+invariant_of-p c = let x = c.args in
+    record { ready = (use_granted x.s x.carry.now x.chunk.now (sym c.may_use.ensures ∙ c.in-Ok.is)).ready }
 
 pub returns-in-Err : goal.returns-in-Err
 unfolding step
@@ -14,5 +15,5 @@ returns-in-Err c = rw (sym c.may_use.ensures ∙ c.in-Err.is) (record { number =
 
 pub returns-in-Ok : goal.returns-in-Ok
 unfolding step
-returns-in-Ok c = let r = c.step_well.ensures.value in
-    rw (sym c.may_use.ensures ∙ c.in-Ok.is) (record { number = rw r; values = rw r; state = rw r; bytes = c.step_well.ensures.carry_after })
+returns-in-Ok c = let r = c.step_well-answer.ensures in
+    rw (sym c.may_use.ensures ∙ c.in-Ok.is) (record { number = rw r.value; values = rw r.value; state = r.state; bytes = search rules })

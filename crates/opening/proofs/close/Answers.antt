@@ -1,12 +1,13 @@
 -- `opening::close` meets its contract.
+use Rattle.std.proofs.Common.{rules}
 use mathlib.Core.Path.{refl, sym, ◌∙◌}
 use Rattle.state.proofs.Granted.{use_granted}
 use Rattle.opening.specs.Operations.{closing}
 use Rattle.opening.proofs.close.Goals as goal
 
-pub close_well-requires : goal.close_well-requires
-close_well-requires c = let x = c.args in
-    (use_granted x.s x.carry.now x.chunk.now (sym c.may_use.ensures ∙ c.in-Ok.is)).ready
+pub invariant_of-p : goal.invariant_of-p
+invariant_of-p c = let x = c.args in
+    record { ready = (use_granted x.s x.carry.now x.chunk.now (sym c.may_use.ensures ∙ c.in-Ok.is)).ready }
 
 pub returns-in-Err : goal.returns-in-Err
 unfolding closing
@@ -15,4 +16,4 @@ returns-in-Err c = rw (sym c.may_use.ensures ∙ c.in-Err.is) (record { refusal 
 pub returns-in-Ok : goal.returns-in-Ok
 unfolding closing
 returns-in-Ok c = let r = c.close_well.ensures.value in
-    rw (sym c.may_use.ensures ∙ c.in-Ok.is) (record { refusal = rw r; used = rw r; kept = rw r; lost = rw r; state = rw r; bytes = c.close_well.ensures.carry_after })
+    rw (sym c.may_use.ensures ∙ c.in-Ok.is) (record { refusal = rw r; used = rw r; kept = rw r; lost = rw r; state = rw r; bytes = search rules })

@@ -2,11 +2,9 @@
 use mathlib.Core.Path.{◌≡◌, sym, ◌∙◌}
 use native.Mathlib.Omega.{arith}
 use lib.ListN.{length}
-use borrow.Author.Tests.{not-false}
 use Rattle.window.specs.Sync.{first_sync}
 use Rattle.state.proofs.Granted.{open_granted}
 use Rattle.quick_chunk.proofs.AtOnce.{at_carry, at_nothing, at_chunk}
-use borrow.Author.Rules.{rules}
 use Rattle.quick_chunk.proofs.open_at_once.Goals as goal
 
 pub bounds-carry-0 : goal.bounds-carry-0

@@ -3,7 +3,6 @@ use mathlib.Core.Path.{refl, ◌∙◌}
 use native.Mathlib.Omega.{arith}
 use Rattle.framer.proofs.Handing.{in_carry, hands_chunk, hands_carry}
 use Rattle.quick_words.proofs.Written.{leaves_by}
-use borrow.Author.Rules.{rules}
 use Rattle.quick_words.proofs.hand.Goals as goal
 
 pub returns-then-s : goal.returns-then-s

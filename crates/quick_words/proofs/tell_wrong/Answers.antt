@@ -1,6 +1,5 @@
 -- `quick_words::tell_wrong` meets its contract: two bytes are drained.
 use mathlib.Core.Path.{refl, ◌∙◌}
-use borrow.Author.Rules.{rules}
 use Rattle.quick_words.proofs.tell_wrong.Goals as goal
 
 pub returns : goal.returns

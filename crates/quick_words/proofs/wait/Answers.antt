@@ -3,7 +3,6 @@ use mathlib.Core.Path.{refl, sym, ap, ◌∙◌}
 use Rattle.state.specs.declared.State.{State}
 use Rattle.state.proofs.Window.{drain_zero}
 use Rattle.words.specs.Words.{stepped_words}
-use borrow.Author.Rules.{rules}
 use Rattle.quick_words.proofs.wait.Goals as goal
 
 pub returns : goal.returns
