@@ -1,4 +1,4 @@
-// The stamps in standard input, in mode one, MAX 240, C 247.
+// The stamps in standard input, in mode one, MAX 240, C 247. A program of one call: what it shares with the others is the teller's.
 #![tactic(auto)]
 
 use window::Mode;

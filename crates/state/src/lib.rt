@@ -201,7 +201,7 @@ impl<'a> Lent<'a> {
     }
 }
 
-// The state with k bytes of its window drained.
+// The state with k bytes of its window drained. It asks of the numbers what it needs and no more: it looks at no lent byte.
 pub fn drained(s: State, k: usize) -> State
     requires { (s.off ≤ s.live) × ((s.part ≤ s.chunk) × ((k ≤ width s) × (s.used + k ≤ 32768))) }
     ensures { result ≡ drain k s }
