@@ -22,6 +22,7 @@ fn ubx_across(p: &mut Lent, words: &mut [u64; 24], out: &mut [u64; 8], head: Ubx
     ensures quickly { Quickly result (step_from p.old.state p.old.carry.now p.old.chunk.now) words.old words.new out.new p.old.carry.now p.new.carry.now }
     ensures name { p.new.carry.ghost_name ≡ p.old.carry.ghost_name }
     ensures chunk { p.new.chunk.now ≡ p.old.chunk.now }
+    ensures state { p.new.state ≡ p.old.state }
 {
     let s = p.state;
     let UbxHead { class, id, n } = head;
@@ -50,6 +51,7 @@ pub fn at_ubx(p: &mut Lent, words: &mut [u64; 24], out: &mut [u64; 8], head: Ubx
     ensures quickly { Quickly result (step_from p.old.state p.old.carry.now p.old.chunk.now) words.old words.new out.new p.old.carry.now p.new.carry.now }
     ensures name { p.new.carry.ghost_name ≡ p.old.carry.ghost_name }
     ensures chunk { p.new.chunk.now ≡ p.old.chunk.now }
+    ensures state { p.new.state ≡ p.old.state }
 {
     let s = p.state;
     let UbxHead { class, id, n } = head;
@@ -86,6 +88,7 @@ pub fn at_rtcm(p: &mut Lent, words: &mut [u64; 24], out: &mut [u64; 8], n: usize
     ensures quickly { Quickly result (step_from p.old.state p.old.carry.now p.old.chunk.now) words.old words.new out.new p.old.carry.now p.new.carry.now }
     ensures name { p.new.carry.ghost_name ≡ p.old.carry.ghost_name }
     ensures chunk { p.new.chunk.now ≡ p.old.chunk.now }
+    ensures state { p.new.state ≡ p.old.state }
 {
     let s = p.state;
     let left = s.live - s.off;

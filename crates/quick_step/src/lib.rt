@@ -18,6 +18,7 @@ fn at_front(p: &mut Lent, words: &mut [u64; 24], out: &mut [u64; 8]) -> bool
     ensures quickly { Quickly result (step_from p.old.state p.old.carry.now p.old.chunk.now) words.old words.new out.new p.old.carry.now p.new.carry.now }
     ensures name { p.new.carry.ghost_name ≡ p.old.carry.ghost_name }
     ensures chunk { p.new.chunk.now ≡ p.old.chunk.now }
+    ensures state { p.new.state ≡ p.old.state }
 {
     let s = p.state;
     let f = seek::first_of(p.window());
@@ -64,6 +65,7 @@ pub fn step_at_once(p: &mut Lent, words: &mut [u64; 24], out: &mut [u64; 8]) -> 
     ensures quickly { Quickly result (step_from p.old.state p.old.carry.now p.old.chunk.now) words.old words.new out.new p.old.carry.now p.new.carry.now }
     ensures name { p.new.carry.ghost_name ≡ p.old.carry.ghost_name }
     ensures chunk { p.new.chunk.now ≡ p.old.chunk.now }
+    ensures state { p.new.state ≡ drain (first_sync p.old.state.mode (window p.old.state p.old.carry.now p.old.chunk.now)) p.old.state }
 {
     p.state = past_noise(p);
     at_front(p, words, out)

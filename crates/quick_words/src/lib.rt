@@ -107,6 +107,7 @@ pub fn bring(
     ensures leaves { Leaves (say p.old.state p.old.carry.now p.old.chunk.now (Hand kind)) words.old words.new out.new p.new.carry.now }
     ensures name { p.new.carry.ghost_name ≡ p.old.carry.ghost_name }
     ensures chunk { p.new.chunk.now ≡ p.old.chunk.now }
+    ensures state { p.new.state ≡ p.old.state }
 {
     let s = p.state;
     let at = s.used;

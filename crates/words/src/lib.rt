@@ -26,6 +26,7 @@ fn mode_no(mode: Mode) -> u64
 }
 
 // The mode of a number, if it is one's.
+#[tactic(auto, unfolding(window::specs::Pick::pick))]
 pub fn read_mode(n: u64) -> Option<Mode>
     ensures { result ≡ read_mode n }
 {
