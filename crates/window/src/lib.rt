@@ -35,7 +35,7 @@ pub enum Mode {
 }
 
 // What a search looks for: the sync bytes of a mode, or CR. It is no closure: against one that tests two or three bytes, a block's
-// bytes are compared one by one, which takes ten times the instructions. A trait, with a type for each, is no plainer.
+// bytes are compared one by one, which takes more than ten times the instructions. A trait, with a type for each, is no plainer.
 #[derive(Clone, Copy)]
 enum Needle {
     Ubx,

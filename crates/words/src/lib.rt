@@ -14,7 +14,8 @@ use state::{Refusal, State};
 use taking::{Place, Side};
 use window::Mode;
 
-// The numbers for C of a mode, of whether a state is open, and of a side. `From` can't say them: neither type is this crate's.
+// The numbers for C of a mode, of whether a state is open, and of a side. Of modes and sides no `From` can say them here: neither type is
+// this crate's.
 fn mode_no(mode: Mode) -> u64
     ensures { result ≡ mode_no mode }
 {
@@ -44,7 +45,7 @@ pub fn read_mode(n: u64) -> Option<Mode>
 fn open_no(open: bool) -> u64
     ensures { result ≡ open_no «open» }
 {
-    if open { 1 } else { 0 }
+    u64::from(open)
 }
 
 fn side_no(side: Side) -> u64
