@@ -57,7 +57,8 @@ fn side_no(side: Side) -> u64
     }
 }
 
-// What C is answered: the refusal's number, and 0 where there is none.
+// What C is answered: the refusal's number, and 0 where there is none. The writer's refusals have their own: one function of both would
+// promise by a bound's ghost members what each says by its definition.
 pub fn leave_no(leave: Result<(), Refusal>) -> u64
     ensures { result ≡ leave_no leave }
 {

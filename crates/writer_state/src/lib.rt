@@ -46,7 +46,8 @@ impl From<Refusal> for u64 {
     }
 }
 
-// What C is answered: the refusal's number, and 0 where there is none.
+// What C is answered: the refusal's number, and 0 where there is none; as words' `leave_no` of the parser's refusals, which says why not
+// as one.
 pub fn leave_no(leave: Result<(), Refusal>) -> u64
     ensures { result ≡ leave_no leave }
 {
