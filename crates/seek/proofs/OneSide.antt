@@ -6,13 +6,14 @@ use mathlib.Core.Logic.{⊎_elim, inl, inr}
 use Prim.Native.Nat.{ℕ, ◌+◌, ◌-◌, ◌*◌, ◌%◌, ◌≤◌, ◌<◌}
 use native.Mathlib.Omega.{arith}
 use lib.ListN.{length, get_or, take, drop, length-drop, length-append}
-use lib.Seq.{drop-append-le, take-append-le}
+use lib.Seq.{drop-append-le, drop-append-add, get_or-drop, take-append-le}
 use lib.Dec.{ltb}
-use borrow.Author.Tests.{le-leb, lt-leb, le-ltb, eq-eqb, ne_eqb}
+use borrow.Author.Tests.{ltb-true, ltb-false, le-leb, lt-leb, le-ltb, eq-eqb, ne_eqb}
 use Rattle.std.specs.Prelude.{Option, Some, None}
 use Rattle.sum.specs.Sum.{sum_of, pair_of}
 use Rattle.window.specs.declared.Mode.{Mode}
 use Rattle.window.specs.Pick.{pick}
+use Rattle.window.proofs.Pick.{by_pick}
 use Rattle.window.specs.Sync.{has_parity, is_sync}
 use Rattle.window.proofs.Laws.{from, joined_left}
 use Rattle.claim.specs.declared.Kind.{Kind, TheVariants.{Ubx, Rtcm}}
@@ -25,7 +26,7 @@ use Rattle.seek.specs.declared.Head.{Head, TheVariants.{Past, Ubx as HeadUbx, Rt
 use Rattle.look.specs.Rules.{claim, look_ubx, look_rtcm, at_sync}
 use Rattle.look.specs.Moves.{judge, settled, step_move}
 use Rattle.seek.specs.Passed.{move_at}
-use Rattle.seek.specs.OneSide.{first_of, Begins, Beside, Tells, Claimed, Heads}
+use Rattle.seek.specs.OneSide.{first_of, side_from, Begins, Beside, Tells, Claimed, Heads}
 use Rattle.look.proofs.Rules.{judged, judge_bare, ubx_other, ubx_over, ubx_claims, rtcm_claims, look_sync}
 
 -- ---- the first slice that has bytes
@@ -203,3 +204,58 @@ module _ (f g : ℕ → ℕ → List ℕ → Sight) (s : List ℕ) (e : (cap u w
   heads_by (Some (Past y)) h = λ cap u w W b. e cap u w W b ∙ h cap u w W b
   heads_by (Some (HeadUbx head)) h = (h.0, h.1, claimed_by (Ubx head.class head.id head.n) h.2)
   heads_by (Some (HeadRtcm n)) h = (h.0, h.1, claimed_by (Rtcm n false) h.2)
+
+-- ---- the side on which the byte at k lies
+
+over_first : (a b : List ℕ) (k : ℕ) → length a ≤ k → drop k (a ++ b) ≡ drop (k - length a) b
+over_first a b k h = let e : k ≡ length a + (k - length a) = omega arith in ap (λ (n : ℕ). drop n (a ++ b)) e ∙ drop-append-add a b (k - length a)
+
+begins_from : (a b : List ℕ) (k : ℕ) → k ≤ length a + length b → Begins (side_from a b k) (drop k (a ++ b)) (length a - k) (length a + length b - k)
+begins_from a b k h =
+    by_pick (λ s. Begins s (drop k (a ++ b)) (length a - k) (length a + length b - k))
+    (λ t. record {
+      rest = b;
+      joined = drop-append-le k a b (omega (arith, ltb-true k (length a) t));
+      width = rw (length-drop k (a ++ b), length-append a b);
+      side = inl (sym (length-drop k a));
+    })
+    (λ t. let l : length a ≤ k = ltb-false k (length a) t in
+    record {
+      rest = [];
+      joined = over_first a b k l ∙ sym (append-nil (drop (k - length a) b));
+      width = rw (length-drop k (a ++ b), length-append a b);
+      side = inr (omega arith);
+    })
+
+beside_from : (a b : List ℕ) (k : ℕ) → Beside (side_from a b k) b (drop k (a ++ b)) (length a - k)
+beside_from a b k =
+    by_pick (λ s. Beside s b (drop k (a ++ b)) (length a - k))
+    (λ t. inr (drop-append-le k a b (omega (arith, ltb-true k (length a) t)), sym (length-drop k a)))
+    (λ t. inl (over_first a b k (ltb-false k (length a) t)))
+
+-- its bytes are the window's from k on, and it ends where the window does, or before
+pub side_byte : (a b s : List ℕ) (k i : ℕ) → s ≡ side_from a b k → k ≤ length a + length b → i < length s → get_or s i 0 ≡ get_or (a ++ b) (k + i) 0
+side_byte a b s k i e h l =
+    begins_at s (drop k (a ++ b)) (length a - k) (length a + length b - k) (rw e (begins_from a b k h)) i l
+    ∙ rw get_or-drop (ap (λ (n : ℕ). get_or (a ++ b) n 0) (omega arith))
+
+pub side_within : (a b s : List ℕ) (k : ℕ) → s ≡ side_from a b k → k ≤ length a + length b → k + length s ≤ length (a ++ b)
+side_within a b s k e h =
+    let l = begins_long s (drop k (a ++ b)) (length a - k) (length a + length b - k) (rw e (begins_from a b k h)) in
+    let m : length s ≤ length (a ++ b) - k = rw length-drop at l in
+    let n : k ≤ length (a ++ b) = rw length-append h in
+    omega (arith, m, n)
+
+-- and the second behind it has all that is left
+pub side_long : (a b s : List ℕ) (k : ℕ) → s ≡ side_from a b k → length a + length b - k ≤ length s + length b
+side_long a b s k e =
+    rw e
+    (by_pick (λ z. length a + length b - k ≤ length z + length b)
+    (λ t. simp length-drop (omega (arith, ltb-true k (length a) t)))
+    (λ t. simp length-drop (omega (arith, ltb-false k (length a) t))))
+
+-- what is told of it is told of the window from k on
+pub told_from : (mode : Mode) (max cap : ℕ) (a b s : List ℕ) (k : ℕ) → s ≡ side_from a b k → k ≤ length a + length b → (r : Option Sight)
+    → ((u : ℕ) (W : List ℕ) → Begins s W u (length a + length b - k) → Beside s b W u → Tells r (step_move mode max cap u W))
+    → Tells r (move_at mode max cap (length a) (a ++ b) k)
+told_from mode max cap a b s k e h r f = f (length a - k) (drop k (a ++ b)) (rw e (begins_from a b k h)) (rw e (beside_from a b k))

@@ -46,9 +46,14 @@ module _ (mode : Mode) (max cap u : ℕ) (W : List ℕ) where
   unfolding step_move look
   at_end k h = rw (drop_of_length-le W h)
 
-  -- a turn more, and the noise behind it
+  -- a turn more stays within the window
+  pub pass_turn : (k : ℕ) (y : Why) → k ≤ length W → Passed mode max cap u W k → move_at mode max cap u W k ≡ Pass y
+      → (0 < far y) × (k + far y ≤ length W) × Passed mode max cap u W (k + far y)
+  pass_turn k y h p e =
+      let inn : (0 < far y) × (far y ≤ length (drop k W)) = rw e at (move_in mode max cap (u - k) (drop k W)) in
+      (inn.0, omega (arith, inn.1, length-drop k W), turn k (k + far y) y p e refl)
+
+  -- and the noise behind it
   pub pass_on : (k : ℕ) (y : Why) → k ≤ length W → Passed mode max cap u W k → move_at mode max cap u W k ≡ Pass y
       → (0 < far y) × (k + far y ≤ length W) × Passed mode max cap u W (k + far y + first_sync mode (drop (k + far y) W))
-  pass_on k y h p e =
-      let inn : (0 < far y) × (far y ≤ length (drop k W)) = rw e at (move_in mode max cap (u - k) (drop k W)) in
-      (inn.0, omega (arith, inn.1, length-drop k W), pass_noise (k + far y) (turn k (k + far y) y p e refl))
+  pass_on k y h p e = let q = pass_turn k y h p e in (q.0, q.1, pass_noise (k + far y) q.2)

@@ -1,5 +1,7 @@
 -- What one side of the window tells of its front: what the inner functions of `seek` are told and answer, and what a head there claims.
-use Rattle.std.specs.Prelude.{◌≡◌, false, Option, Some, None, Result, Ok, Err, ◌⊎◌, ℕ, ◌+◌, ◌≤◌, ◌<◌, List, [], ◌∷◌, ◌++◌, length}
+use Rattle.std.specs.Prelude.{◌≡◌, false, Option, Some, None, Result, Ok, Err, ◌⊎◌, ℕ, ◌+◌, ◌-◌, ◌≤◌, ◌<◌, List, [], ◌∷◌, ◌++◌, length, drop}
+use lib.Dec.{ltb}
+use Rattle.window.specs.Pick.{pick}
 use Rattle.look.specs.declared.Sight.{Sight, TheVariants.{Pass}}
 use Rattle.claim.specs.declared.Kind.{Kind, TheVariants.{Ubx, Rtcm}}
 use Rattle.claim.specs.declared.UbxHead.{UbxHead}
@@ -13,6 +15,10 @@ use Rattle.seek.specs.declared.Head.{Head, TheVariants.{Past, Ubx as HeadUbx, Rt
 abbrev pub first_of : List ℕ → List ℕ → List ℕ
 first_of [] b = b
 first_of (x ∷ a) b = x ∷ a
+
+-- the list in which the byte at k of two lists read as one lies, from that byte on
+abbrev pub side_from : List ℕ → List ℕ → ℕ → List ℕ
+side_from a b k = pick (ltb k (length a)) (drop k a) (drop (k - length a) b)
 
 -- a window W of w bytes begins with s, and all of s lies on one side: u bytes of W lie in the carry, and these are s, or none
 pub record Begins (s W : List ℕ) (u w : ℕ) : Type 0 where

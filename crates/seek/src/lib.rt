@@ -3,14 +3,14 @@
 // parser.rs, the loops around the heads of the three iterators' `next`.
 #![tactic(auto)]
 
-ghost use Rattle.std.specs.Prelude.{◌≡◌, true, false, Some, List, ℕ, ◌+◌, ◌≤◌, ◌<◌, length, get_or};
-ghost use Rattle.window.specs.Sync.{is_sync, has_parity};
+ghost use Rattle.std.specs.Prelude.{◌≡◌, true, false, Some, List, ℕ, ◌+◌, ◌≤◌, ◌<◌, length, get_or, drop};
+ghost use Rattle.window.specs.Sync.{is_sync, has_parity, first_sync};
 ghost use Rattle.window.specs.Window.{bytes, width};
 ghost use Rattle.claim.specs.declared.Kind.TheVariants.{Ubx};
 ghost use Rattle.look.specs.Rules.{far, claim, look_ubx, look_rtcm};
 ghost use Rattle.look.specs.Moves.{settled, step_move};
 ghost use Rattle.seek.specs.Passed.{move_at, Stops};
-ghost use Rattle.seek.specs.OneSide.{first_of, Begins, Beside, Tells, told_head, Heads};
+ghost use Rattle.seek.specs.OneSide.{first_of, side_from, Begins, Beside, Tells, told_head, Heads};
 
 use claim::{Kind, UbxHead, Verdict};
 use look::{Sight, Why};
@@ -172,26 +172,61 @@ fn glance(mode: Mode, max: u16, cap: usize, s: &[u8], b: &[u8], w: usize) -> Opt
     None
 }
 
-// What the first side that has bytes tells of what is left of the window after its first k bytes, where it has a head there.
-fn glance_at(mode: Mode, max: u16, cap: usize, window: Window, k: usize) -> Option<Sight>
+// The side on which the window's byte at k lies, from that byte on.
+#[tactic(auto, unfolding(window::specs::Pick::pick))]
+fn side_from<'a>(window: Window<'a>, k: usize) -> &'a [u8]
+    requires { k ≤ width window }
+    ensures { result.now ≡ side_from window.entry.carry.now window.entry.chunk.now k }
+{
+    let left = window.carry.len();
+    if k < left {
+        &window.carry[k..]
+    } else {
+        &window.chunk[k - left..]
+    }
+}
+
+// What that side, s, tells of what is left of the window after its first k bytes, where it has a head there.
+fn glance_at(mode: Mode, max: u16, cap: usize, window: Window, k: usize, s: &[u8]) -> Option<Sight>
+    requires within { k ≤ width window }
+    requires side { s.now ≡ side_from window.carry.now window.chunk.now k }
     ensures { Tells result (move_at mode max cap (length window.entry.carry.now) (bytes window.entry) k) }
 {
-    let s = first_of(window);
-    if s.len() <= k || s.len() - k < claim::UBX_HEADER_LEN {
+    if s.len() < claim::UBX_HEADER_LEN {
         return None;
     }
-    glance(mode, max, cap, &s[k..], window.chunk, window.len() - k)
+    glance(mode, max, cap, s, window.chunk, window.len() - k)
 }
 
 // The look at what is left of the window after its first k bytes: at one side's head where that tells, else at both sides.
-fn look_at(mode: Mode, max: u16, cap: usize, window: Window, k: usize) -> Sight
-    requires { k ≤ width window }
+fn look_at(mode: Mode, max: u16, cap: usize, window: Window, k: usize, s: &[u8]) -> Sight
+    requires within { k ≤ width window }
+    requires side { s.now ≡ side_from window.carry.now window.chunk.now k }
     ensures { result ≡ move_at mode max cap (length window.entry.carry.now) (bytes window.entry) k }
 {
-    if let Some(sight) = glance_at(mode, max, cap, window, k) {
+    if let Some(sight) = glance_at(mode, max, cap, window, k, s) {
         return sight;
     }
     look::look(mode, max, cap, window.rest(k))
+}
+
+// The place of the first sync byte behind the n bytes that are passed from k on, or the window's length where there is none. Two bytes of
+// the side, s, are looked at before any block is searched: behind a false head there is often another.
+fn next_sync(mode: Mode, window: Window, k: usize, s: &[u8], n: usize) -> usize
+    requires within { k + n ≤ width window }
+    requires side { s.now ≡ side_from window.carry.now window.chunk.now k }
+    ensures value { result ≡ k + n + first_sync mode (drop (k + n) (bytes window.entry)) }
+    ensures upper_bound { result ≤ width window.entry }
+{
+    if n + 1 < s.len() {
+        if window::is_sync(mode, s[n]) {
+            return k + n;
+        }
+        if window::is_sync(mode, s[n + 1]) {
+            return k + n + 1;
+        }
+    }
+    window.find_sync(mode, k + n)
 }
 
 // Looks, and passes what is to be passed, until something is to be said. The bytes up to the next sync byte go at once, so the loop
@@ -203,9 +238,10 @@ pub fn seek(mode: Mode, max: u16, cap: usize, window: Window) -> Stop
     let mut skip = 0;
     // A `while`, no `for`: a turn goes on at the next sync byte, not at the next byte.
     while skip < w {
-        match look_at(mode, max, cap, window, skip) {
+        let side = side_from(window, skip);
+        match look_at(mode, max, cap, window, skip, side) {
             Sight::Pass(why) => {
-                skip = window.find_sync(mode, skip + far(why));
+                skip = next_sync(mode, window, skip, side, far(why));
             }
             Sight::Say(verdict) => {
                 return Stop { skip, verdict };

@@ -120,7 +120,10 @@ pub fn read_plain(words: &[u64; 24], open: bool) -> Option<State>
     if window::has_parity(mode) {
         return None;
     }
-    Some(state_by(mode, words))
+    Some(State {
+        open,
+        ..state_by(mode, words)
+    })
 }
 
 // A state's nine words; the others stay.

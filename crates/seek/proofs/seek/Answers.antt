@@ -11,19 +11,19 @@ use Rattle.seek.proofs.seek.Goals as goal
 pub loop-skip-init : goal.loop-skip-init
 loop-skip-init c = record { within = omega arith; passed = start }
 
-pub find_sync-skip-requires : goal.find_sync-skip-requires
-find_sync-skip-requires c = let x = c.args in
+pub next_sync-skip-requires : goal.next_sync-skip-requires
+next_sync-skip-requires c = let x = c.args in
     let a = x.window.carry.now in let W = bytes x.window in let k = c.loop-skip.skip in
     let h : k ≤ length W = simp length-append (omega arith) in
     let p = pass_on x.mode x.max x.cap (length a) W k c.in-Pass.why h c.loop-skip.invariant.passed (sym c.look_at.ensures ∙ c.in-Pass.is) in
-    omega (arith, simp length-append at p.1, c.far.ensures)
+    record { within = omega (arith, simp length-append at p.1, c.far.ensures); side = c.side_from-side.ensures }
 
 pub loop-skip-preserved : goal.loop-skip-preserved
 loop-skip-preserved c = let x = c.args in
     let a = x.window.carry.now in let W = bytes x.window in let k = c.loop-skip.skip in
     let h : k ≤ length W = simp length-append (omega arith) in
     let p = pass_on x.mode x.max x.cap (length a) W k c.in-Pass.why h c.loop-skip.invariant.passed (sym c.look_at.ensures ∙ c.in-Pass.is) in
-    record { within = c.find_sync-skip.ensures.upper_bound; passed = rw (c.find_sync-skip.ensures.value, c.far.ensures) p.2 }
+    record { within = c.next_sync-skip.ensures.upper_bound; passed = rw (c.next_sync-skip.ensures.value, c.far.ensures) p.2 }
 
 pub returns : goal.returns
 returns c = let x = c.args in
