@@ -3,11 +3,12 @@
 
 ghost use Rattle.std.specs.Prelude.{◌≤◌, length};
 ghost use Rattle.text.specs.Adds.{SameBuffer};
+ghost use Rattle.teller.specs.Telling.{Through};
 ghost use Rattle.lister.specs.Listing.{listing, Lists};
 ghost use Rattle.lister.specs.Laws.{listing_gets_on};
 
 use std::io::Read;
-use teller::{Run, Teller};
+use teller::{ChunkTeller, Run, Teller};
 use text::Lines;
 use window::Mode;
 
@@ -45,7 +46,20 @@ impl Teller for Listing {
     ghost gets_on = { listing_gets_on };
 }
 
-// A chunk: opened, its answers' lines, closed. In the listing's own words, what `teller::tell` does with each chunk.
+impl ChunkTeller for Listing {
+    fn chunk(
+        rt: &(impl Print + Eprint),
+        run: &mut Run<Listing>,
+        carry: &mut [u8],
+        chunk: &[u8],
+        lines: &mut Lines,
+    ) {
+        through(rt, run, carry, chunk, lines);
+    }
+}
+
+// A chunk: opened, its answers' lines, closed. Each chunk that `list` reads goes through here. What comes of it is said in the
+// listing's own words, and in the teller's.
 pub fn through(
     rt: &(impl Print + Eprint),
     l: &mut Run<Listing>,
@@ -56,6 +70,7 @@ pub fn through(
     requires { 84 ≤ length lines.old.out.now }
     ensures lists { Lists l.old carry.old chunk.now l.new carry.new }
     ensures buffer { SameBuffer lines.old lines.new }
+    ensures told { Through listing l.old carry.old chunk.now lines.old l.new carry.new lines.new }
 {
     teller::through(rt, l, carry, chunk, lines);
 }

@@ -3,12 +3,13 @@
 #![tactic(auto)]
 
 ghost use Rattle.std.specs.Prelude.{◌≤◌, length};
+ghost use Rattle.teller.specs.Telling.{Through as Told};
 ghost use Rattle.stamper.specs.Stamping.{stamping, Through};
 ghost use Rattle.stamper.specs.Laws.{stamping_gets_on};
 
 use stamp_lines::Tally;
 use std::io::Read;
-use teller::{Run, Teller};
+use teller::{ChunkTeller, Run, Teller};
 use text::Lines;
 use window::Mode;
 
@@ -48,7 +49,20 @@ impl Teller for Stamping {
     ghost gets_on = { stamping_gets_on };
 }
 
-// A chunk: opened, stepped to its end, closed. In the stamps' own words, what `teller::tell` does with each chunk.
+impl ChunkTeller for Stamping {
+    fn chunk(
+        rt: &(impl Print + Eprint),
+        run: &mut Run<Stamping>,
+        carry: &mut [u8],
+        chunk: &[u8],
+        lines: &mut Lines,
+    ) {
+        through(rt, run, carry, chunk, lines);
+    }
+}
+
+// A chunk: opened, stepped to its end, closed. Each chunk that `stamps` reads goes through here. What comes of it is said in the
+// stamps' own words, and in the teller's.
 pub fn through(
     rt: &(impl Print + Eprint),
     l: &mut Run<Stamping>,
@@ -57,7 +71,8 @@ pub fn through(
     lines: &mut Lines,
 )
     requires { 218 ≤ length lines.old.out.now }
-    ensures { Through l.old carry.old chunk.now lines.old l.new carry.new lines.new }
+    ensures through { Through l.old carry.old chunk.now lines.old l.new carry.new lines.new }
+    ensures told { Told stamping l.old carry.old chunk.now lines.old l.new carry.new lines.new }
 {
     teller::through(rt, l, carry, chunk, lines);
 }

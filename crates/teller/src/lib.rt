@@ -52,6 +52,21 @@ pub trait Teller: Copy {
     ghost gets_on: { GetsOn words };
 }
 
+// A teller with a function of its own for a chunk, which does what `through` does, and may promise it in the teller's own words too.
+// It stands beside `Teller` since that function calls `through`, which takes a `Teller`: in one trait each would wait for the other.
+pub trait ChunkTeller: Teller {
+    // A chunk: opened, stepped to its end, closed.
+    fn chunk(
+        rt: &(impl Print + Eprint),
+        run: &mut Run<Self>,
+        carry: &mut [u8],
+        chunk: &[u8],
+        lines: &mut Lines,
+    )
+        requires { Self.LONGEST ≤ length lines.old.out.now }
+        ensures { Through Self.words run.old carry.old chunk.now lines.old run.new carry.new lines.new };
+}
+
 // The lines of the steps to come, as far as the buffer has room. The answer is whether it is full.
 fn fill<T: Teller>(run: &mut Run<T>, carry: &mut [u8], chunk: &[u8], lines: &mut Lines) -> bool
     ensures { Fills T.words T.LONGEST run.old carry.old chunk.now lines.old result run.new carry.new lines.new }
@@ -139,8 +154,8 @@ fn finish<T: Teller>(rt: &(impl Print + Eprint), run: &mut Run<T>, lines: &mut L
 // Tells the reader's bytes in chunks of at most `chunk`'s length, between the first line and the last, with `name` for what is told
 // on standard error. It reads on until the input ends, or a read or a write fails. Nothing says that an input ends, so the reads are
 // counted, up to a number that no run comes to. What a read gives and a write takes no clause can tell; what a chunk comes to is
-// `through`'s to say.
-pub fn tell<T: Teller>(
+// `chunk`'s to say.
+pub fn tell<T: ChunkTeller>(
     rt: &(impl Print + Eprint),
     input: &mut impl Read,
     name: &[u8],
@@ -168,7 +183,7 @@ pub fn tell<T: Teller>(
         if n == 0 {
             break;
         }
-        through(rt, &mut run, carry, &chunk[..n], &mut lines);
+        T::chunk(rt, &mut run, carry, &chunk[..n], &mut lines);
         if !run.up {
             break;
         }

@@ -3,4 +3,4 @@ use Rattle.lister.proofs.Spelled.{lists}
 use Rattle.lister.proofs.through.Goals as goal
 
 pub returns : goal.returns
-returns g c = record { lists = lists c.through.ensures; buffer = c.through.ensures.buffer }
+returns g c = record { lists = lists c.through.ensures; buffer = c.through.ensures.buffer; told = c.through.ensures }

@@ -3,4 +3,4 @@ use Rattle.stamper.proofs.Spelled.{through}
 use Rattle.stamper.proofs.through.Goals as goal
 
 pub returns : goal.returns
-returns g c = through c.through.ensures
+returns g c = record { through = through c.through.ensures; told = c.through.ensures }
