@@ -82,12 +82,14 @@ pub fn open(s: State, carry: &[u8], chunk: &[u8]) -> Opened
     }
 }
 
-// A close that is not refused. The next state is in the answer alone: it is idle and has no chunk, so what is lent does not fit it.
+// A close that is not refused. The lent state stays. The next one is in the answer alone: it is idle and has no chunk, so what is lent does
+// not fit it.
 pub fn close_well(p: &mut Lent) -> Closed
     ensures value { result ≡ (close_on p.old.state p.old.carry.now p.old.chunk.now (Ok tt)).result }
     ensures carry_after { p.new.carry.now ≡ (close_on p.old.state p.old.carry.now p.old.chunk.now (Ok tt)).carry }
     ensures name { p.new.carry.ghost_name ≡ p.old.carry.ghost_name }
     ensures chunk { p.new.chunk.now ≡ p.old.chunk.now }
+    ensures state { p.new.state ≡ p.old.state }
 {
     let s = p.state;
     let rest = s.chunk - s.part;

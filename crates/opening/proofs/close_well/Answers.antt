@@ -12,4 +12,4 @@ returns c = let x = c.args.p.now in let s = x.state in
     let d = c.drain-left.ensures.value in
     let n = c.least-n.ensures in
     let h : left_len s ≤ s.cap = omega (arith, x.ready.sane.lives) in
-    record { value = rw (c.idle.ensures, c.extend-kept.ensures.value, n, d, kept_is (left_len s) (s.chunk - s.part) s.cap h, lost_is (left_len s) (s.chunk - s.part) s.cap h); carry_after = c.extend-kept.ensures.carry_after ∙ rw (from x.chunk.now s.part, c.drain-left.ensures.carry_after, n, d); name = refl; chunk = refl }
+    record { value = rw (c.idle.ensures, c.extend-kept.ensures.value, n, d, kept_is (left_len s) (s.chunk - s.part) s.cap h, lost_is (left_len s) (s.chunk - s.part) s.cap h); carry_after = c.extend-kept.ensures.carry_after ∙ rw (from x.chunk.now s.part, c.drain-left.ensures.carry_after, n, d); name = refl; chunk = refl; state = refl }
