@@ -1,3 +1,4 @@
+pub mod Ready
 pub mod Account
 pub mod Turns
 pub mod Slices

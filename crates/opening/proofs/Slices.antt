@@ -1,4 +1,4 @@
--- What is left of the carry is what the window begins with.
+-- The slice that the code lends, `&carry[off..live]`, is what is left of the carry, with which the window begins.
 use mathlib.Core.Path.{◌≡◌, sym, ◌∙◌}
 use mathlib.Core.List.{List}
 use mathlib.Core.Bool.{true}
@@ -13,6 +13,7 @@ use Rattle.state.specs.declared.State.{State}
 use Rattle.state.specs.Words.{left, ahead, window}
 use Rattle.state.specs.Ready.{Sane}
 use Rattle.state.proofs.Window.{left_length}
+pub use Rattle.state.proofs.Window.{left_part}
 
 -- where what is left of the carry begins with a sync byte, that is the window's first
 pub syncs_at_once : (s : State) (carry chunk : List ℕ) → Sane s carry chunk → s.off < s.live → is_sync s.mode (get_or carry s.off 0) ≡ true

@@ -7,6 +7,7 @@ use native.Mathlib.Nat.{add-zero, zero-sub, sub-zero, suc-sub-suc, min-zero, suc
 use lib.ListN.{length, take, drop, length-drop, length-append}
 use lib.Seq.{drop-drop, length-take-le, take-nil, drop-nil}
 use Rattle.carry.specs.Carry.{drain_carry}
+use Rattle.carry.proofs.Laws.{drop_take}
 use Rattle.window.specs.declared.Mode.{Mode}
 use Rattle.state.specs.declared.State.{State}
 use Rattle.state.specs.Words.{left, left_len, ahead, window, width, drain}
@@ -33,6 +34,12 @@ pub take_min : (A : List ℕ) (k : ℕ) → take (min (length A) k) A ≡ take k
 take_min [] k = simp take-nil
 take_min (x ∷ A) zero = rw min-zero
 take_min (x ∷ A) (suc k) = rw suc-min-suc (ap (λ (r : List ℕ). x ∷ r) (take_min A k))
+
+-- the slice `&carry[off..live]` is what is left of the carry
+pub left_part : (l : List ℕ) (off live : ℕ) → off ≤ live → take (live - off) (drop off l) ≡ drop off (take live l)
+left_part l off live h =
+    let e : live ≡ off + (live - off) = omega arith in
+    sym (ap (λ (n : ℕ). drop off (take n l)) e ∙ drop_take off (live - off) l)
 
 -- what no call changes
 pub record Setup : Type 0 where

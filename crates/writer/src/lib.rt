@@ -24,7 +24,7 @@ fn put(memory: &mut [u8], at: usize, bytes: &[u8])
 }
 
 // Begins a frame with a payload of `len` bytes: its six head bytes. Refused, the state is one that every later call refuses.
-#[tactic(auto, using(writer_state::proofs::Granted::begin_granted), unfolding(crate::specs::Writing::beginning))]
+#[tactic(auto, using(writer_state::proofs::Granted::begin_granted, crate::proofs::Refused::begin_refused), unfolding(crate::specs::Writing::beginning))]
 pub fn begin(memory: &mut [u8], class: u8, id: u8, len: usize) -> Written
     ensures { Writes (beginning memory.old class id len) result memory.new }
 {
@@ -49,7 +49,7 @@ pub fn begin(memory: &mut [u8], class: u8, id: u8, len: usize) -> Written
 }
 
 // Writes the next piece of the payload, which may be empty. Refusals 3 and 4.
-#[tactic(auto, using(writer_state::proofs::Granted::add_granted), unfolding(crate::specs::Writing::adding))]
+#[tactic(auto, using(writer_state::proofs::Granted::add_granted, crate::proofs::Refused::add_refused), unfolding(crate::specs::Writing::adding))]
 pub fn piece(w: Writer, memory: &mut [u8], bytes: &[u8]) -> Written
     ensures { Writes (adding w memory.old bytes.now) result memory.new }
 {
@@ -68,7 +68,7 @@ pub fn piece(w: Writer, memory: &mut [u8], bytes: &[u8]) -> Written
 
 // Writes the sum over class, id, length and payload, as they stand in the memory from byte 2 on, behind the payload. Refusals 3
 // and 5.
-#[tactic(auto, using(writer_state::proofs::Granted::finish_granted), unfolding(crate::specs::Writing::finishing))]
+#[tactic(auto, using(writer_state::proofs::Granted::finish_granted, crate::proofs::Refused::finish_refused), unfolding(crate::specs::Writing::finishing))]
 pub fn finish(w: Writer, memory: &mut [u8]) -> Written
     ensures { Writes (finishing w memory.old) result memory.new }
 {
