@@ -4,7 +4,6 @@ use mathlib.Core.Path.{◌≡◌, sym, ◌∙◌}
 use mathlib.Core.Bool.{true, false}
 use Prim.Native.Nat.{suc, ◌+◌, ◌<◌}
 use native.Mathlib.Omega.{arith}
-use native.Mathlib.Numerals.{add-one}
 use lib.ListN.{length, length-append, get_or}
 use Rattle.window.specs.Sync.{is_sync}
 use Rattle.window.specs.Window.{bytes}
