@@ -97,6 +97,7 @@ fn tale_at(tale: Tale, at: usize) -> Answer
 }
 
 // What is said of a state whose first `skip` bytes are passed.
+#[tactic(auto, using(crate::proofs::Ready::room_of))]
 fn said(p: &mut Lent, skip: usize, v: Verdict) -> Answer
     requires skip_bound { (skip ≤ width p.old.state) × Says p.old.state.cap (left_len (drain skip p.old.state)) (width (drain skip p.old.state)) v }
     ensures { Said (say (drain skip p.old.state) p.old.carry.now p.old.chunk.now v) p.old p.new result }

@@ -153,8 +153,8 @@ pub fn head_of(max: u16, s: &[u8]) -> Option<Head>
 }
 
 // What one side tells of the front of a window of w bytes, by itself or, where it has a frame's head, with b behind it. The two are no
-// `Window`: s is what is left of one side, b all of the other. That s has a head is asked of each that looks there: a type for it would be
-// built by `glance_at` alone, and taken apart at once.
+// `Window`: s is what is left of one side; b is the chunk, which stands behind s where s is of the carry, and else is not read. That s has a
+// head is asked of each that looks there: a type for it would be built by `glance_at` alone, and taken apart at once.
 fn glance(mode: Mode, max: u16, cap: usize, s: &[u8], b: &[u8], w: usize) -> Option<Sight>
     requires { (6 ≤ length s.now) × (w ≤ length s.now + length b.now) }
     ensures { (u : ℕ) (W : List ℕ) → Begins s.now W u w → Beside s.now b.now W u → Tells result (step_move mode max cap u W) }
