@@ -1,14 +1,16 @@
-// The listing and the stamps where a read or a write fails in mid-stream. Tests alone.
+// The listing, the stamps, and what `teller::tell` tells, where a read or a write fails in mid-stream. Tests alone.
 #![tactic(auto)]
 
 ghost use Rattle.std.specs.Prelude.{◌≤◌, length};
 
 #[cfg(test)]
 mod tests {
+    use lister::Listing;
     use std::cell::Cell;
     use std::fmt::Display;
     use std::io;
     use std::io::{ErrorKind, Read};
+    use teller::Teller;
     use window::Mode;
 
     // A frame of class 01 and id 21 with no payload, behind a byte of noise.
@@ -119,6 +121,25 @@ mod tests {
         );
     }
 
+    // Any teller will do, also one with no function of its own for a chunk.
+    fn tell<T: Teller>(sink: &Sink, source: &mut Source, by: T, out: &mut [u8])
+        requires { T.LONGEST ≤ length out.old }
+    {
+        let mut carry = [0u8; 247];
+        let mut chunk = [0u8; 64];
+        teller::tell(
+            sink,
+            source,
+            b"source",
+            Mode::One(false),
+            240,
+            by,
+            &mut carry,
+            &mut chunk,
+            out,
+        );
+    }
+
     // Lines that were found before a read that fails are written, and so is the last line; the read is told.
     #[test]
     fn a_failed_read(rt: HostRuntime) {
@@ -152,6 +173,33 @@ mod tests {
         stamps(&stamped, &mut source, &mut [0u8; 240]);
         assert_eq!(rt; stamped.asked.get(), 1);
         assert_eq!(rt; stamped.told.get(), 1);
+        assert_eq!(rt; source.left, 9);
+    }
+
+    // So it is with any teller: after a read that fails what was found is written, and after a write that fails nothing more.
+    #[test]
+    fn any_teller(rt: HostRuntime) {
+        let told = taking(
+            "mode 1 max 240 carry 247\nat 1 ubx 01 21 len 0\nat 10 ubx 01 21 len 0\nend used 18 kept 0 lost 0\n",
+        );
+        tell(
+            &told,
+            &mut Source { left: 2 },
+            Listing { named: false },
+            &mut [0u8; 512],
+        );
+        assert_eq!(rt; told.took.get(), 1);
+        assert_eq!(rt; told.told.get(), 1);
+        let told = taking("");
+        let mut source = Source { left: 10 };
+        tell(
+            &told,
+            &mut source,
+            Listing { named: false },
+            &mut [0u8; 128],
+        );
+        assert_eq!(rt; told.asked.get(), 1);
+        assert_eq!(rt; told.told.get(), 1);
         assert_eq!(rt; source.left, 9);
     }
 }

@@ -90,7 +90,7 @@ pub fn list(
 )
     requires { 84 ≤ length out.old }
 {
-    teller::tell(
+    teller::tell_chunks(
         rt,
         input,
         name,

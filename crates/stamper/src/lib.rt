@@ -94,5 +94,5 @@ pub fn stamps(
         clock: None,
         tally: Tally::default(),
     };
-    teller::tell(rt, input, name, mode, max, by, carry, chunk, out);
+    teller::tell_chunks(rt, input, name, mode, max, by, carry, chunk, out);
 }

@@ -13,6 +13,10 @@ use std::io::Read;
 use text::Lines;
 use window::Mode;
 
+mod plain;
+
+use plain::Plain;
+
 // Where a program stands: the parser; used and lost of all closes so far, and kept of the last; whether every write so far was
 // taken; and what the teller has beside. The lines that wait to be written stand in a buffer beside it.
 #[derive(Clone, Copy)]
@@ -155,7 +159,7 @@ fn finish<T: Teller>(rt: &(impl Print + Eprint), run: &mut Run<T>, lines: &mut L
 // on standard error. It reads on until the input ends, or a read or a write fails. Nothing says that an input ends, so the reads are
 // counted, up to a number that no run comes to. What a read gives and a write takes no clause can tell; what a chunk comes to is
 // `chunk`'s to say.
-pub fn tell<T: ChunkTeller>(
+pub fn tell_chunks<T: ChunkTeller>(
     rt: &(impl Print + Eprint),
     input: &mut impl Read,
     name: &[u8],
@@ -189,4 +193,22 @@ pub fn tell<T: ChunkTeller>(
         }
     }
     finish(rt, &mut run, &mut lines)
+}
+
+// Tells the reader's bytes as `tell_chunks` does, for any teller: each chunk goes through `through`, and what it comes to is that one's
+// to say.
+pub fn tell<T: Teller>(
+    rt: &(impl Print + Eprint),
+    input: &mut impl Read,
+    name: &[u8],
+    mode: Mode,
+    max: u16,
+    by: T,
+    carry: &mut [u8],
+    chunk: &mut [u8],
+    out: &mut [u8],
+)
+    requires { T.LONGEST ≤ length out.old }
+{
+    tell_chunks(rt, input, name, mode, max, Plain { by }, carry, chunk, out);
 }
