@@ -15,7 +15,7 @@ use Rattle.window.specs.declared.Mode.{Mode}
 use Rattle.window.specs.Pick.{pick}
 use Rattle.window.proofs.Pick.{by_pick}
 use Rattle.window.specs.Sync.{has_parity, is_sync}
-use Rattle.window.proofs.Laws.{joined_left}
+use Rattle.window.proofs.Laws.{from, joined_left}
 use Rattle.claim.specs.declared.Kind.{Kind, TheVariants.{Ubx, Rtcm}}
 use Rattle.claim.specs.declared.Verdict.TheVariants.{Hand}
 use Rattle.claim.specs.Sizes.{skip, around, size, back}
@@ -38,6 +38,32 @@ first_empty (x ∷ a) b h = absurd (omega arith)
 pub first_some : (a b : List ℕ) → (length a ≡ 0 → ⊥) → a ≡ first_of a b
 first_some [] b h = absurd (h refl)
 first_some (x ∷ a) b h = refl
+
+-- and the second behind it has all that is left
+pub first_long : (a b s : List ℕ) → s ≡ first_of a b → length a + length b ≤ length s + length b
+first_long [] b s e = omega arith
+first_long (x ∷ a) b s e = let z = ap length e in omega arith
+
+begins_first : (a b : List ℕ) (k : ℕ) → k ≤ length (first_of a b) → Begins (drop k (first_of a b)) (drop k (a ++ b)) (length a - k) (length a + length b - k)
+begins_first [] b k h = record { rest = []; joined = sym (append-nil (drop k b)); width = length-drop k b ∙ omega arith; side = inr (omega arith) }
+begins_first (x ∷ a) b k h = record {
+  rest = b;
+  joined = drop-append-le k (x ∷ a) b h;
+  width = rw (length-drop k (x ∷ a ++ b), length-append (x ∷ a) b);
+  side = inl (sym (length-drop k (x ∷ a)));
+}
+
+beside_first : (a b : List ℕ) (k : ℕ) → k ≤ length (first_of a b) → Beside (drop k (first_of a b)) b (drop k (a ++ b)) (length a - k)
+beside_first [] b k h = inl refl
+beside_first (x ∷ a) b k h = inr (drop-append-le k (x ∷ a) b h, sym (length-drop k (x ∷ a)))
+
+-- what is told of the slice from k on is told of the window from k on
+pub told_there : (mode : Mode) (max cap : ℕ) (a b s : List ℕ) → s ≡ first_of a b → (k : ℕ) → k ≤ length s → (r : Option Sight)
+    → ((u : ℕ) (W : List ℕ) → Begins (take (length s - k) (drop k s)) W u (length a + length b - k) → Beside (take (length s - k) (drop k s)) b W u → Tells r (step_move mode max cap u W))
+    → Tells r (move_at mode max cap (length a) (a ++ b) k)
+told_there mode max cap a b s e k h r f =
+    let l : k ≤ length (first_of a b) = rw e at h in
+    f (length a - k) (drop k (a ++ b)) (rw (from s k, e) (begins_first a b k l)) (rw (from s k, e) (beside_first a b k l))
 
 -- ---- a window that begins with a side
 

@@ -16,8 +16,15 @@ abbrev pub as_asked : Mode → List ℕ → Bool → State
 as_asked mode w o = let s = state_by mode w in
     record { mode = mode; max = s.max; cap = s.cap; live = s.live; off = s.off; used = s.used; «open» = o; chunk = s.chunk; part = s.part }
 
-pub plainly : (w : List ℕ) (mode : Mode) (o : Bool) → get_or w 1 0 ≤ 65535 → get_or w 6 0 ≡ open_no o → read_mode (get_or w 0 0) ≡ Some mode
+pub plainly_asked : (w : List ℕ) (mode : Mode) (o : Bool) → get_or w 1 0 ≤ 65535 → get_or w 6 0 ≡ open_no o → read_mode (get_or w 0 0) ≡ Some mode
     → read_state w ≡ Some (as_asked mode w o)
+unfolding read_state pick
+plainly_asked w mode true m e r = rw (le-ltb _ _ m, e, r) (rw e)
+plainly_asked w mode false m e r = rw (le-ltb _ _ m, e, r) (rw e)
+
+-- and that is the one by the words alone
+pub plainly : (w : List ℕ) (mode : Mode) (o : Bool) → get_or w 1 0 ≤ 65535 → get_or w 6 0 ≡ open_no o → read_mode (get_or w 0 0) ≡ Some mode
+    → read_state w ≡ Some (state_by mode w)
 unfolding read_state pick
 plainly w mode true m e r = rw (le-ltb _ _ m, e, r) (rw e)
 plainly w mode false m e r = rw (le-ltb _ _ m, e, r) (rw e)
