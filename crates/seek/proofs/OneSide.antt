@@ -5,6 +5,7 @@ use mathlib.Core.List.{List, [], ◌∷◌, ◌++◌, append-nil}
 use mathlib.Core.Logic.{⊎_elim, inl, inr}
 use Prim.Native.Nat.{ℕ, ◌+◌, ◌-◌, ◌*◌, ◌%◌, ◌≤◌, ◌<◌}
 use native.Mathlib.Omega.{arith}
+use native.Mathlib.Nat.{sub-zero}
 use lib.ListN.{length, get_or, take, drop, length-drop, length-append}
 use lib.Seq.{drop-append-le, drop-append-add, get_or-drop, take-append-le}
 use lib.Dec.{ltb}
@@ -39,23 +40,41 @@ pub first_some : (a b : List ℕ) → (length a ≡ 0 → ⊥) → a ≡ first_o
 first_some [] b h = absurd (h refl)
 first_some (x ∷ a) b h = refl
 
--- and the second behind it has all that is left
+-- that slice and the second have at least as many bytes as both
 pub first_long : (a b s : List ℕ) → s ≡ first_of a b → length a + length b ≤ length s + length b
 first_long [] b s e = omega arith
 first_long (x ∷ a) b s e = let z = ap length e in omega arith
 
-begins_first : (a b : List ℕ) (k : ℕ) → k ≤ length (first_of a b) → Begins (drop k (first_of a b)) (drop k (a ++ b)) (length a - k) (length a + length b - k)
-begins_first [] b k h = record { rest = []; joined = sym (append-nil (drop k b)); width = length-drop k b ∙ omega arith; side = inr (omega arith) }
-begins_first (x ∷ a) b k h = record {
+over_first : (a b : List ℕ) (k : ℕ) → length a ≤ k → drop k (a ++ b) ≡ drop (k - length a) b
+over_first a b k h = let e : k ≡ length a + (k - length a) = omega arith in ap (λ (n : ℕ). drop n (a ++ b)) e ∙ drop-append-add a b (k - length a)
+
+-- what the window from k on begins with: where k is at most the first list's length, and where it is at least that
+begins_left : (a b : List ℕ) (k : ℕ) → k ≤ length a → Begins (drop k a) (drop k (a ++ b)) (length a - k) (length a + length b - k)
+begins_left a b k h = record {
   rest = b;
-  joined = drop-append-le k (x ∷ a) b h;
-  width = rw (length-drop k (x ∷ a ++ b), length-append (x ∷ a) b);
-  side = inl (sym (length-drop k (x ∷ a)));
+  joined = drop-append-le k a b h;
+  width = rw (length-drop k (a ++ b), length-append a b);
+  side = inl (sym (length-drop k a));
 }
+
+begins_right : (a b : List ℕ) (k : ℕ) → length a ≤ k → Begins (drop (k - length a) b) (drop k (a ++ b)) (length a - k) (length a + length b - k)
+begins_right a b k h = record {
+  rest = [];
+  joined = over_first a b k h ∙ sym (append-nil (drop (k - length a) b));
+  width = rw (length-drop k (a ++ b), length-append a b);
+  side = inr (omega arith);
+}
+
+beside_left : (a b : List ℕ) (k : ℕ) → k ≤ length a → Beside (drop k a) b (drop k (a ++ b)) (length a - k)
+beside_left a b k h = inr (drop-append-le k a b h, sym (length-drop k a))
+
+begins_first : (a b : List ℕ) (k : ℕ) → k ≤ length (first_of a b) → Begins (drop k (first_of a b)) (drop k (a ++ b)) (length a - k) (length a + length b - k)
+begins_first [] b k h = rw sub-zero at (begins_right [] b k (omega arith))
+begins_first (x ∷ a) b k h = begins_left (x ∷ a) b k h
 
 beside_first : (a b : List ℕ) (k : ℕ) → k ≤ length (first_of a b) → Beside (drop k (first_of a b)) b (drop k (a ++ b)) (length a - k)
 beside_first [] b k h = inl refl
-beside_first (x ∷ a) b k h = inr (drop-append-le k (x ∷ a) b h, sym (length-drop k (x ∷ a)))
+beside_first (x ∷ a) b k h = beside_left (x ∷ a) b k h
 
 -- what is told of the slice from k on is told of the window from k on
 pub told_there : (mode : Mode) (max cap : ℕ) (a b s : List ℕ) → s ≡ first_of a b → (k : ℕ) → k ≤ length s → (r : Option Sight)
@@ -69,8 +88,7 @@ told_there mode max cap a b s e k h r f =
 
 -- two lists read as one begin with the first that has bytes
 pub begins_both : (a b : List ℕ) → Begins (first_of a b) (a ++ b) (length a) (length a + length b)
-begins_both [] b = record { rest = []; joined = sym (append-nil b); width = omega arith; side = inr refl }
-begins_both (x ∷ a) b = record { rest = b; joined = refl; width = length-append (x ∷ a) b; side = inl refl }
+begins_both a b = rw (sub-zero, sub-zero) at (begins_first a b 0 (omega arith))
 
 module _ (s W : List ℕ) (u w : ℕ) (h : Begins s W u w) where
   pub begins_long : length s ≤ length W
@@ -207,33 +225,19 @@ module _ (f g : ℕ → ℕ → List ℕ → Sight) (s : List ℕ) (e : (cap u w
 
 -- ---- the side on which the byte at k lies
 
-over_first : (a b : List ℕ) (k : ℕ) → length a ≤ k → drop k (a ++ b) ≡ drop (k - length a) b
-over_first a b k h = let e : k ≡ length a + (k - length a) = omega arith in ap (λ (n : ℕ). drop n (a ++ b)) e ∙ drop-append-add a b (k - length a)
-
 begins_from : (a b : List ℕ) (k : ℕ) → k ≤ length a + length b → Begins (side_from a b k) (drop k (a ++ b)) (length a - k) (length a + length b - k)
 begins_from a b k h =
     by_pick (λ s. Begins s (drop k (a ++ b)) (length a - k) (length a + length b - k))
-    (λ t. record {
-      rest = b;
-      joined = drop-append-le k a b (omega (arith, ltb-true k (length a) t));
-      width = rw (length-drop k (a ++ b), length-append a b);
-      side = inl (sym (length-drop k a));
-    })
-    (λ t. let l : length a ≤ k = ltb-false k (length a) t in
-    record {
-      rest = [];
-      joined = over_first a b k l ∙ sym (append-nil (drop (k - length a) b));
-      width = rw (length-drop k (a ++ b), length-append a b);
-      side = inr (omega arith);
-    })
+    (λ t. begins_left a b k (omega (arith, ltb-true k (length a) t)))
+    (λ t. begins_right a b k (ltb-false k (length a) t))
 
 beside_from : (a b : List ℕ) (k : ℕ) → Beside (side_from a b k) b (drop k (a ++ b)) (length a - k)
 beside_from a b k =
     by_pick (λ s. Beside s b (drop k (a ++ b)) (length a - k))
-    (λ t. inr (drop-append-le k a b (omega (arith, ltb-true k (length a) t)), sym (length-drop k a)))
+    (λ t. beside_left a b k (omega (arith, ltb-true k (length a) t)))
     (λ t. inl (over_first a b k (ltb-false k (length a) t)))
 
--- its bytes are the window's from k on, and it ends where the window does, or before
+-- the side's bytes are the window's from k on, and the side ends where the window does, or before
 pub side_byte : (a b s : List ℕ) (k i : ℕ) → s ≡ side_from a b k → k ≤ length a + length b → i < length s → get_or s i 0 ≡ get_or (a ++ b) (k + i) 0
 side_byte a b s k i e h l =
     begins_at s (drop k (a ++ b)) (length a - k) (length a + length b - k) (rw e (begins_from a b k h)) i l
@@ -246,7 +250,7 @@ side_within a b s k e h =
     let n : k ≤ length (a ++ b) = rw length-append h in
     omega (arith, m, n)
 
--- and the second behind it has all that is left
+-- the side and the whole second list have at least as many bytes as the window from k on
 pub side_long : (a b s : List ℕ) (k : ℕ) → s ≡ side_from a b k → length a + length b - k ≤ length s + length b
 side_long a b s k e =
     rw e
@@ -254,7 +258,7 @@ side_long a b s k e =
     (λ t. simp length-drop (omega (arith, ltb-true k (length a) t)))
     (λ t. simp length-drop (omega (arith, ltb-false k (length a) t))))
 
--- what is told of it is told of the window from k on
+-- what is told of the side is told of the window from k on
 pub told_from : (mode : Mode) (max cap : ℕ) (a b s : List ℕ) (k : ℕ) → s ≡ side_from a b k → k ≤ length a + length b → (r : Option Sight)
     → ((u : ℕ) (W : List ℕ) → Begins s W u (length a + length b - k) → Beside s b W u → Tells r (step_move mode max cap u W))
     → Tells r (move_at mode max cap (length a) (a ++ b) k)
