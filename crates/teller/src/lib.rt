@@ -195,8 +195,8 @@ pub fn tell_chunks<T: ChunkTeller>(
     finish(rt, &mut run, &mut lines)
 }
 
-// Tells the reader's bytes as `tell_chunks` does, for any teller: each chunk goes through `through`, and what it comes to is that one's
-// to say.
+// Tells the reader's bytes as `tell_chunks` does, for any teller: each chunk goes through `through`, also where the teller has a `chunk`
+// of its own, and what it comes to is `through`'s to say.
 pub fn tell<T: Teller>(
     rt: &(impl Print + Eprint),
     input: &mut impl Read,
